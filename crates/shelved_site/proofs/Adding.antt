@@ -1,11 +1,12 @@
 -- The records that are added beside a log.
-use Rattle.std.proofs.Common.{◌≡◌, ◌≤◌, ◌<◌, ◌+◌, ◌-◌, ℕ, zero, suc, List, [], ◌∷◌, ◌++◌, Bool, true, false, length, take, drop, inl, inr, refl}
-use Rattle.std.proofs.Common.{sym, ap, subst, ◌∙◌, append_assoc, get_or, cond, arith}
+use Rattle.std.proofs.Common.{◌≡◌, ◌≤◌, ◌<◌, ◌+◌, ◌-◌, ℕ, zero, suc, List, [], ◌∷◌, ◌++◌, length, take, drop, inl, inr}
+use Rattle.std.proofs.Common.{map, refl, sym, ap, subst, ◌∙◌, append_assoc, get_or, arith}
 use Rattle.std.proofs.Math.Seq.{drop-nil, take-length}
-use Rattle.std.specs.Prelude.{◌↔◌, filter, None, Some}
+use Rattle.std.specs.Prelude.{◌↔◌, None, Some}
 use Rattle.std.proofs.lemmas.Option.{same_Some as some_is}
-use Rattle.std.proofs.lemmas.List.{append-nil}
-use Rattle.octets.specs.Members.{Has}
+use Rattle.std.proofs.lemmas.List.{append-nil, map-append}
+use Rattle.std.proofs.lemmas.List.Elements.{filter-append, filter_map-append}
+use Rattle.archive_model.specs.Contents.{contents}
 use Rattle.sqlite_disk.specs.declared.Disk.{Ghosts}
 use Rattle.operation.specs.declared.op.Op.{Op}
 use Rattle.operation.specs.declared.op.Op.TheVariants.{Content as a_content, Correction as a_correction}
@@ -15,23 +16,9 @@ use Rattle.records.specs.StandIn.{op_in, stand_in}
 use Rattle.record_log.specs.declared.log.RecordLog.{RecordLog}
 use Rattle.record_log.specs.Entries.{has_no_note, without_notes}
 use Rattle.record_log.specs.Log.{Tells}
-use Rattle.op_log.specs.Told.{AreToldOf}
-use Rattle.shelved_site.specs.Told.{AreAmong, AreInOrder, HaveOneDigest, IsBehind, IsNamedBy}
-
--- ---- lists
-
-either : {X : Type 0} (xs ys : List X) (x : X) {P : Type 0} → (Has xs x → P) → (Has ys x → P) → Has (xs ++ ys) x → P
-either [] ys x first second has = second has
-either (y ∷ xs) ys x first second (inl e) = first (inl e)
-either (y ∷ xs) ys x first second (inr has) = either xs ys x (λ h. first (inr h)) second has
-
-one_left : {X : Type 0} (p : X → Bool) (x y : X) → Has (filter p (x ∷ [])) y → y ≡ x
-one_left p x y has = by (p x) has
-  where
-    by : (b : Bool) → Has (cond b (x ∷ []) []) y → y ≡ x
-    by true (inl e) = e
-    by true (inr none) = elim none [ ]
-    by false none = elim none [ ]
+use Rattle.op_log.specs.declared.kept.Kept.{Kept}
+use Rattle.op_log.specs.declared.kept.Kept.TheVariants.{New, Known}
+use Rattle.shelved_site.specs.Told.{AreInOrder, AreOthers, HaveOneDigest, IsBehind, IsNamedBy, new_among, told_of}
 
 -- ---- contents of operations
 
@@ -150,52 +137,165 @@ module _ (told : List ContentParts) (ops : List Op) (rest : List ContentParts) (
       no_more [] order = refl
       no_more (c ∷ cs) order = absurd order
 
+-- ---- what is added of a group
+
+-- of none that is told of, none is new
+none_new : (ops : List Op) → new_among ops [] ≡ []
+none_new [] = refl
+none_new (op ∷ ops) = refl
+
+told_more : (done : List Op) (op : Op) → told_of (done ++ op ∷ []) ≡ told_of done ++ told_of (op ∷ [])
+told_more done op =
+    ap (λ (ops : List Op). without_notes (contents ops)) (map-append op_in done (op ∷ []))
+    ∙ ap without_notes (filter_map-append content_in (map op_in done) (op_in op ∷ []))
+    ∙ filter-append has_no_note (contents (map op_in done)) (contents (op_in op ∷ []))
+
 module _ {D : Type 0} (g : Ghosts D) where
-  -- nothing was added
-  pub none_of : (log : RecordLog D) (ops : List Op) (cs : List ContentParts) → Tells g log cs
-      → (more : List ContentParts) × AreToldOf ops more × Tells g log (cs ++ more)
-  none_of log ops cs tells = ([], λ c none. elim none [ ], subst (Tells g log) (sym (append-nil cs)) tells)
-
-  -- the record of one was, unless it is a rejection note
+  -- the record of a content was added, unless it is a rejection note
   pub one_of : (new : RecordLog D) (op : Op) (x r : ContentParts) (cs : List ContentParts) → op ≡ a_content x
-      → r ≡ stand_in x → Tells g new (cs ++ without_notes (r ∷ []))
-      → (more : List ContentParts) × AreToldOf (op ∷ []) more × Tells g new (cs ++ more)
-  one_of new op x r cs of stands tells = (
-    without_notes (r ∷ []),
-    λ c has. (op, inl refl, ap a_content (one_left has_no_note r c has ∙ stands) ∙ ap op_in (sym of)),
-    tells,
+      → r ≡ stand_in x → Tells g new (cs ++ without_notes (r ∷ [])) → Tells g new (cs ++ told_of (op ∷ []))
+  one_of new op x r cs of stands tells =
+      subst (λ (o : Op). Tells g new (cs ++ told_of (o ∷ []))) (sym of)
+      (subst (λ (c : ContentParts). Tells g new (cs ++ without_notes (c ∷ []))) stands tells)
+
+  -- of a correction nothing is told
+  pub none_of : (log : RecordLog D) (op : Op) (cs : List ContentParts) → content_in op ≡ None → Tells g log cs
+      → Tells g log (cs ++ told_of (op ∷ []))
+  none_of log (a_content c) cs none tells = absurd cc
+  none_of log (a_correction k) cs none tells = subst (Tells g log) (sym (append-nil cs)) tells
+
+  -- so far those were added of a group that are told to be new, and the others are left
+  pub record AreNewAdded (log : RecordLog D) (ops : List Op) (told left : List Kept) (i : ℕ)
+      (cs : List ContentParts) : Type 0 where
+    pub done : List Op
+    pub parts : new_among ops told ≡ done ++ new_among (drop i ops) left
+    pub tells : Tells g log (cs ++ told_of done)
+
+  pub none_first : (log : RecordLog D) (ops : List Op) (told left : List Kept) (cs : List ContentParts) → left ≡ told
+      → Tells g log cs → AreNewAdded log ops told left 0 cs
+  none_first log ops told left cs all tells = record {
+    done = [];
+    parts = ap (new_among ops) (sym all);
+    tells = subst (Tells g log) (sym (append-nil cs)) tells;
+  }
+
+  module _ (ops : List Op) (told left rest : List Kept) (i : ℕ) (op : Op) (low : i < length ops)
+      (at : op ≡ get_or ops i op) (cs : List ContentParts) where
+    next : (is : left ≡ rest) → new_among (drop i ops) left ≡ new_among (op ∷ drop (i + 1) ops) rest
+    next is = ap (λ (os : List Op). new_among os left) (next_left ops i op low at)
+        ∙ ap (new_among (op ∷ drop (i + 1) ops)) is
+
+  pub new_added : (mid new : RecordLog D) (ops : List Op) (told left rest : List Kept) (i : ℕ) (op : Op)
+      (cs : List ContentParts) → i < length ops → op ≡ get_or ops i op → left ≡ New ∷ rest
+      → ((ds : List ContentParts) → Tells g mid ds → Tells g new (ds ++ told_of (op ∷ [])))
+      → AreNewAdded mid ops told left i cs → AreNewAdded new ops told rest (i + 1) cs
+  new_added mid new ops told left rest i op cs low at is step was = record {
+    done = was.done ++ op ∷ [];
+    parts = was.parts
+        ∙ ap (λ (os : List Op). was.done ++ os) (next ops told left (New ∷ rest) i op low at cs is)
+        ∙ sym (append_assoc was.done (op ∷ []) (new_among (drop (i + 1) ops) rest));
+    tells = subst (Tells g new)
+        (append_assoc cs (told_of was.done) (told_of (op ∷ [])) ∙ ap (λ (ds : List ContentParts). cs ++ ds)
+        (sym (told_more was.done op)))
+        (step (cs ++ told_of was.done) was.tells);
+  }
+
+  pub known_passed : (log : RecordLog D) (ops : List Op) (told left rest : List Kept) (i : ℕ) (op : Op)
+      (cs : List ContentParts) → i < length ops → op ≡ get_or ops i op → left ≡ Known ∷ rest
+      → AreNewAdded log ops told left i cs → AreNewAdded log ops told rest (i + 1) cs
+  known_passed log ops told left rest i op cs low at is was = record {
+    done = was.done;
+    parts = was.parts ∙ ap (λ (os : List Op). was.done ++ os) (next ops told left (Known ∷ rest) i op low at cs is);
+    tells = was.tells;
+  }
+
+  -- an operation of which nothing is told any more
+  pub untold_passed : (log : RecordLog D) (ops : List Op) (told left rest : List Kept) (i : ℕ) (op : Op)
+      (cs : List ContentParts) → i < length ops → op ≡ get_or ops i op → left ≡ [] → rest ≡ []
+      → AreNewAdded log ops told left i cs → AreNewAdded log ops told rest (i + 1) cs
+  untold_passed log ops told left rest i op cs low at is none was = record {
+    done = was.done;
+    parts = was.parts ∙ ap (λ (os : List Op). was.done ++ os)
+        (next ops told left [] i op low at cs is
+        ∙ sym (ap (new_among (drop (i + 1) ops)) none ∙ none_new (drop (i + 1) ops)));
+    tells = was.tells;
+  }
+
+  pub all_added : (log : RecordLog D) (ops : List Op) (told left : List Kept) (i : ℕ) (cs : List ContentParts)
+      → length ops ≤ i → AreNewAdded log ops told left i cs → Tells g log (cs ++ told_of (new_among ops told))
+  all_added log ops told left i cs high was =
+      let all : was.done ≡ new_among ops told =
+      sym (was.parts ∙ ap (λ (os : List Op). was.done ++ new_among os left) (none_left ops i high)
+      ∙ append-nil was.done) in
+      subst (λ (os : List Op). Tells g log (cs ++ told_of os)) all was.tells
+
+-- ---- what is added at a start
+
+module _ {D : Type 0} (g : Ghosts D) (told : List ContentParts) (ops : List Op) (cs : List ContentParts) where
+  -- so far those were added that are not told, and the others are left
+  pub record AreAdded (log : RecordLog D) (rest : List ContentParts) (i : ℕ) : Type 0 where
+    pub done : List ContentParts
+    pub tells : Tells g log (cs ++ without_notes done)
+    pub others : (later : List ContentParts) → AreOthers rest (drop i ops) later → AreOthers told ops (done ++ later)
+
+  pub none_added : (log : RecordLog D) → Tells g log cs → AreAdded log told 0
+  none_added log tells = record {
+    done = [];
+    tells = subst (Tells g log) (sym (append-nil cs)) tells;
+    others = λ later are. are;
+  }
+
+  module _ (rest : List ContentParts) (i : ℕ) (op : Op) (low : i < length ops) (at : op ≡ get_or ops i op) where
+    onward : (later : List ContentParts) → AreOthers rest (op ∷ drop (i + 1) ops) later
+        → AreOthers rest (drop i ops) later
+    onward later are = subst (λ (os : List Op). AreOthers rest os later) (sym (next_left ops i op low at)) are
+
+    -- a content that is told is passed
+    pub told_passed : (log : RecordLog D) (d : ContentParts) (behind : List ContentParts) → op ≡ a_content d
+        → IsBehind rest d behind → AreAdded log rest i → AreAdded log behind (i + 1)
+    told_passed log d behind is names was = record {
+      done = was.done;
+      tells = was.tells;
+      others = λ later are. was.others later (onward later
+          (subst (λ (o : Op). AreOthers rest (o ∷ drop (i + 1) ops) later) (sym is) (inl (behind, names, are))));
+    }
+
+    -- another is added
+    pub other_added : (mid new : RecordLog D) (d : ContentParts) → op ≡ a_content d
+        → ((behind : List ContentParts) → ¬ IsBehind rest d behind)
+        → ((ds : List ContentParts) → Tells g mid ds → Tells g new (ds ++ without_notes (d ∷ [])))
+        → AreAdded mid rest i → AreAdded new rest (i + 1)
+    other_added mid new d is other step was = record {
+      done = was.done ++ d ∷ [];
+      tells = subst (Tells g new)
+          (append_assoc cs (without_notes was.done) (without_notes (d ∷ []))
+          ∙ ap (λ (ds : List ContentParts). cs ++ ds) (sym (filter-append has_no_note was.done (d ∷ []))))
+          (step (cs ++ without_notes was.done) was.tells);
+      others = λ later are. subst (AreOthers told ops) (sym (append_assoc was.done (d ∷ []) later))
+          (was.others (d ∷ later) (onward (d ∷ later)
+          (subst (λ (o : Op). AreOthers rest (o ∷ drop (i + 1) ops) (d ∷ later)) (sym is)
+          (inr (other, (later, refl, are))))));
+    }
+
+    -- a correction is passed
+    pub correction_passed : (log : RecordLog D) → content_in op ≡ None → AreAdded log rest i → AreAdded log rest (i + 1)
+    correction_passed log none was = record {
+      done = was.done;
+      tells = was.tells;
+      others = λ later are. was.others later (onward later (behind op none later are));
+    }
+      where
+        behind : (o : Op) → content_in o ≡ None → (later : List ContentParts) → AreOthers rest (drop (i + 1) ops) later
+            → AreOthers rest (o ∷ drop (i + 1) ops) later
+        behind (a_content d) none later are = absurd cc
+        behind (a_correction k) none later are = are
+
+  -- no operation is left
+  pub others_added : (log : RecordLog D) (rest : List ContentParts) (i : ℕ) → length ops ≤ i → AreAdded log rest i
+      → (others : List ContentParts) × AreOthers told ops others × Tells g log (cs ++ without_notes others)
+  others_added log rest i high was = (
+    was.done,
+    subst (AreOthers told ops) (append-nil was.done)
+        (was.others [] (subst (λ (os : List Op). AreOthers rest os []) (sym (none_left ops i high)) refl)),
+    was.tells,
   )
-
-  -- those of one operation more were
-  pub more_of : (mid new : RecordLog D) (ops : List Op) (op : Op) (cs : List ContentParts) → Has ops op
-      → (more : List ContentParts) × AreToldOf ops more × Tells g mid (cs ++ more)
-      → ((ds : List ContentParts) → Tells g mid ds
-      → (more : List ContentParts) × AreToldOf (op ∷ []) more × Tells g new (ds ++ more))
-      → (more : List ContentParts) × AreToldOf ops more × Tells g new (cs ++ more)
-  more_of mid new ops op cs among was step =
-      let it = step (cs ++ was.0) was.2 in (
-        was.0 ++ it.0,
-        λ c has. either was.0 it.0 c (was.1 c) (λ h. let o = it.1 c h in (o.0, here o.0 o.1, o.2)) has,
-        subst (Tells g new) (append_assoc cs was.0 it.0) it.2,
-      )
-    where
-      here : (o : Op) → Has (op ∷ []) o → Has ops o
-      here o (inl e) = subst (Has ops) (sym e) among
-      here o (inr none) = elim none [ ]
-
-  -- the record of one that is among some operations
-  pub more_among : (mid new : RecordLog D) (ops : List Op) (r : ContentParts) (cs : List ContentParts)
-      → Has ops (a_content r) → (more : List ContentParts) × AreAmong more ops × Tells g mid (cs ++ more)
-      → ((ds : List ContentParts) → Tells g mid ds → Tells g new (ds ++ without_notes (r ∷ [])))
-      → (more : List ContentParts) × AreAmong more ops × Tells g new (cs ++ more)
-  more_among mid new ops r cs among was step = (
-    was.0 ++ without_notes (r ∷ []),
-    λ c has. either was.0 (without_notes (r ∷ [])) c (was.1 c)
-        (λ h. subst (λ (x : ContentParts). Has ops (a_content x)) (sym (one_left has_no_note r c h)) among) has,
-    subst (Tells g new) (append_assoc cs was.0 (without_notes (r ∷ []))) (step (cs ++ was.0) was.2),
-  )
-
-  -- none of them was
-  pub none_among : (log : RecordLog D) (ops : List Op) (cs : List ContentParts) → Tells g log cs
-      → (more : List ContentParts) × AreAmong more ops × Tells g log (cs ++ more)
-  none_among log ops cs tells = ([], λ c none. elim none [ ], subst (Tells g log) (sym (append-nil cs)) tells)

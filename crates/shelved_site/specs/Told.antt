@@ -1,18 +1,29 @@
 -- What is told of contents beside a log.
-use Rattle.std.specs.Prelude.{◌≡◌, ◌⊎◌, List, [], ◌∷◌, None}
-use Rattle.octets.specs.Members.{Has}
+use Rattle.std.specs.Prelude.{◌≡◌, ◌⊎◌, List, [], ◌∷◌, None, map}
+use Rattle.archive_model.specs.Contents.{contents}
 use Rattle.operation.specs.declared.op.Op.{Op}
 use Rattle.operation.specs.declared.op.Op.TheVariants.{Content as a_content, Correction as a_correction}
 use Rattle.operation.specs.Parts.{ContentParts}
 use Rattle.operation.specs.Spelling.{digest_of}
+use Rattle.op_log.specs.declared.kept.Kept.{Kept}
+use Rattle.op_log.specs.declared.kept.Kept.TheVariants.{New, Known}
 use Rattle.op_log.specs.Told.{TellTrue}
 use Rattle.record_log.specs.declared.log.RecordLog.{RecordLog}
+use Rattle.record_log.specs.Entries.{without_notes}
+use Rattle.records.specs.StandIn.{op_in}
 use Rattle.site_state.specs.Site.{Map}
 use Rattle.shelved_site.specs.Sites.{IsSiteOf, after_recording}
 
--- each of these contents is among some operations
-abbrev pub AreAmong : List ContentParts → List Op → Type 0
-AreAmong cs ops = (c : ContentParts) → Has cs c → Has ops (a_content c)
+-- what a file of records tells of some operations: what stands for each content, but for rejection notes
+abbrev pub told_of : List Op → List ContentParts
+told_of ops = without_notes (contents (map op_in ops))
+
+-- those of a group of operations that are told to be new
+abbrev pub new_among : List Op → List Kept → List Op
+new_among [] told = []
+new_among (op ∷ ops) [] = []
+new_among (op ∷ ops) (New ∷ told) = op ∷ new_among ops told
+new_among (op ∷ ops) (Known ∷ told) = new_among ops told
 
 -- two contents have one digest
 abbrev pub HaveOneDigest : ContentParts → ContentParts → Type 0
@@ -33,6 +44,16 @@ abbrev pub AreInOrder : List ContentParts → List Op → Type 0
 AreInOrder [] ops = Unit {0}
 AreInOrder (c ∷ cs) [] = ⊥
 AreInOrder (c ∷ cs) (op ∷ ops) = (IsNamedBy op c × AreInOrder cs ops) ⊎ AreInOrder (c ∷ cs) ops
+
+-- These contents are all of some operations that are not told: what is told is met in the order of the operations, each
+-- by its digest.
+abbrev pub AreOthers : List ContentParts → List Op → List ContentParts → Type 0
+AreOthers told [] others = others ≡ []
+AreOthers told (a_content c ∷ ops) others =
+    ((rest : List ContentParts) × IsBehind told c rest × AreOthers rest ops others)
+    ⊎ (((rest : List ContentParts) → ¬ IsBehind told c rest)
+    × ((behind : List ContentParts) × (others ≡ c ∷ behind) × AreOthers told ops behind))
+AreOthers told (a_correction k ∷ ops) others = AreOthers told ops others
 
 -- a file of records is given up: nothing is added to it any more
 abbrev pub IsGivenUp : {D : Type 0} → RecordLog D → Type 0

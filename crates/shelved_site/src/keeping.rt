@@ -3,7 +3,7 @@
 ghost use Rattle.std.specs.Prelude.{◌≡◌, ◌++◌, ◌∷◌, [], List};
 ghost use Rattle.operation.specs.Parts.{ContentParts};
 ghost use Rattle.record_log.specs.Log.{Tells};
-ghost use Rattle.op_log.specs.Told.{AreToldOf};
+ghost use Rattle.shelved_site.specs.Told.{told_of, new_among};
 
 use crate::telling::{all_kept, fault};
 use op_log::OpLog;
@@ -71,12 +71,12 @@ impl<H: Disk + Drop, B: Disk + Drop> KeptLog<H, B> {
     }
 }
 
-/// Adds the record of a content to a file of records. Where memory is refused for it the file is
-/// given up, so that none stands there without those before it.
+/// Adds the record of an operation to a file of records, if it is a content, and no rejection note.
+/// Where memory is refused for it the file is given up, so that none stands there without those
+/// before it.
 fn add_record<H: Disk + Drop>(alloc: Global, records: &mut RecordLog<H>, op: &Digested)
     ensures { (cs : List ContentParts) → Tells H.Disk records.old cs
-        → (more : List ContentParts) × AreToldOf (op.now ∷ []) more
-        × Tells H.Disk records.new (cs ++ more) }
+        → Tells H.Disk records.new (cs ++ told_of (op.now ∷ [])) }
 {
     let Op::Content(content) = op.op() else {
         return;
@@ -87,7 +87,7 @@ fn add_record<H: Disk + Drop>(alloc: Global, records: &mut RecordLog<H>, op: &Di
     }
 }
 
-/// The same of each operation of a group that is new.
+/// The same of each operation of a group that is told to be new.
 fn add_new<H: Disk + Drop>(
     alloc: Global,
     records: &mut RecordLog<H>,
@@ -95,8 +95,7 @@ fn add_new<H: Disk + Drop>(
     told: &[op_log::Kept],
 )
     ensures { (cs : List ContentParts) → Tells H.Disk records.old cs
-        → (more : List ContentParts) × AreToldOf ops.now more
-        × Tells H.Disk records.new (cs ++ more) }
+        → Tells H.Disk records.new (cs ++ told_of (new_among ops.now told.now)) }
 {
     let mut rest = told.iter();
     for op in ops {

@@ -6,13 +6,14 @@ ghost use Rattle.operation.specs.declared.op.Op.{Op as Operation};
 ghost use Rattle.operation.specs.Parts.{ContentParts};
 ghost use Rattle.op_log.specs.Told.{TellTrue};
 ghost use Rattle.op_shelf.specs.Keep.{AreSame};
+ghost use Rattle.record_log.specs.Entries.{without_notes};
 ghost use Rattle.record_log.specs.Log.{Tells};
 ghost use Rattle.records.specs.StandIn.{op_in};
 ghost use Rattle.shelved_site.specs.Keeping.{IsUp, Holds, log_of};
 ghost use Rattle.shelved_site.specs.Refusing.{LogRefusesAll};
 ghost use Rattle.shelved_site.specs.Sites.{AreRecords, IsSiteOf, IsOfStore};
 ghost use Rattle.shelved_site.specs.Stores.{IsSame, listed_in};
-ghost use Rattle.shelved_site.specs.Told.{AreAmong, AreInOrder, IsBehind, IsGivenUp, IsToldSiteOf};
+ghost use Rattle.shelved_site.specs.Told.{AreInOrder, AreOthers, IsBehind, IsGivenUp, IsToldSiteOf};
 
 use crate::fault::ShelvedFault;
 use crate::keeping::KeptLog;
@@ -75,9 +76,10 @@ fn add_others<D: Disk + Drop>(
 ) -> bool
     ensures order { IsTrue result ↔ AreInOrder told.now recorded.now }
     ensures given_up { result ≡ false → IsGivenUp records.new }
-    ensures added { (cs : List ContentParts) → Tells D.Disk records.old cs
-        → (more : List ContentParts) × AreAmong more recorded.now
-        × Tells D.Disk records.new (cs ++ more) }
+    // Those that were not told are added, but for rejection notes.
+    ensures added { IsTrue result → (cs : List ContentParts) → Tells D.Disk records.old cs
+        → (others : List ContentParts) × AreOthers told.now recorded.now others
+        × Tells D.Disk records.new (cs ++ without_notes others) }
 {
     if !are_in_order(recorded, told) {
         *records = RecordLog::none(alloc);
