@@ -2,12 +2,12 @@
 use Rattle.std.proofs.Common.{◌≡◌, ◌||◌, Bool, true, false, cond, None, Some, Option, List, [], ◌∷◌, ◌++◌, fold}
 use Rattle.std.proofs.Common.{refl, subst, sym, ap, ◌∙◌}
 use Rattle.std.specs.Cmp.{IsTotalOrder}
-use Rattle.std.specs.List.{list_any, AllByRecursion}
+use Rattle.std.specs.List.{list_any}
 use Rattle.std.specs.Map.{keys_of, lookup}
 use Rattle.std.specs.Ordering.{is_eq, ordering_reverse}
 use Rattle.std.specs.List.Sorted.{IsStrictlySortedBy}
 use Rattle.std.specs.declared.cmp.Ordering.{Ordering}
-use Rattle.std.specs.declared.cmp.Ordering.TheVariants.{Less, Equal, Greater}
+use Rattle.std.specs.declared.cmp.Ordering.TheVariants.{Greater}
 use Rattle.std.specs.BTreeMap.{is_at}
 use Rattle.std.specs.BTreeSet.{insert_key}
 use mathlib.Core.Bool.{or_assoc}
@@ -16,6 +16,7 @@ use Rattle.join_laws.specs.GrowSet.{union_of}
 use Rattle.join_laws.specs.MapOf.{map_joined, put_joined}
 use Rattle.join_laws.specs.Proved.Maps.{same_entries, lookup-put_joined, lookup-map_joined, sorted-map_joined}
 use Rattle.join_laws.specs.Proved.Maps.{sorted-put_joined, equal_from_is_eq}
+use Rattle.join_laws.specs.Proved.Ascending.{below_last, front_ascends}
 use Rattle.join_laws.specs.Proved.Sets.{same_keys, sorted-insert_key, sorted-union, has-insert_key, has-union}
 
 fold_last : {A B : Type 0} (f : A → B → A) (a : A) (xs : List B) (x : B)
@@ -44,24 +45,6 @@ module _ {K : Type 0} {R : K → K → Ordering} (o : IsTotalOrder R) (exact : I
       ∙ put_first k xs rest s)
 
 module _ {K J : Type 0} {R : K → K → Ordering} (o : IsTotalOrder R) (exact : IsExact R) where
-  below_last : (x : K) (rest : List (K × J)) (e : K × J)
-      → AllByRecursion (λ (y : K). R x y ≡ Less) (keys_of (rest ++ e ∷ [])) → R x e.0 ≡ Less
-  below_last x [] e all = all.0
-  below_last x (f ∷ rest) e all = below_last x rest e all.1
-
-  front_below : (x : K) (rest : List (K × J)) (e : K × J)
-      → AllByRecursion (λ (y : K). R x y ≡ Less) (keys_of (rest ++ e ∷ []))
-      → AllByRecursion (λ (y : K). R x y ≡ Less) (keys_of rest)
-  front_below x [] e all = tt
-  front_below x (f ∷ rest) e all = (all.0, front_below x rest e all.1)
-
-  -- what ascends goes on to ascend without its last
-  pub front_ascends : (rest : List (K × J)) (e : K × J)
-      → IsStrictlySortedBy R (keys_of (rest ++ e ∷ [])) → IsStrictlySortedBy R (keys_of rest)
-  unfolding IsStrictlySortedBy
-  front_ascends [] e s = tt
-  front_ascends (f ∷ rest) e s = (front_below f.0 rest e s.0, front_ascends rest e s.1)
-
   -- the last key is none of those before it
   none_before : (q : K) (rest : List (K × J)) (e : K × J) → IsStrictlySortedBy R (keys_of (rest ++ e ∷ []))
       → is_at (R q) e.0 ≡ true → lookup (is_at (R q)) rest ≡ None
@@ -70,7 +53,7 @@ module _ {K J : Type 0} {R : K → K → Ordering} (o : IsTotalOrder R) (exact :
   none_before q (f ∷ rest) e s at =
       let is : q ≡ e.0 = exact q e.0 (equal_from_is_eq (R q e.0) at) in
       let above : R q f.0 ≡ Greater =
-      ap (λ (k : K). R k f.0) is ∙ o.antisymm e.0 f.0 ∙ ap ordering_reverse (below_last f.0 rest e s.0) in
+      ap (λ (k : K). R k f.0) is ∙ o.antisymm e.0 f.0 ∙ ap ordering_reverse (below_last R f.0 rest e s.0) in
       ap (λ (r : Ordering). cond (is_eq r) (Some f.1) (lookup (is_at (R q)) rest)) above
       ∙ none_before q rest e s.1 at
 
@@ -123,7 +106,7 @@ module _ {K J : Type 0} {R : K → K → Ordering} (o : IsTotalOrder R) (exact :
       let put = sorted-put_joined o exact join e.0 e.1 xs s in
       same_entries o exact _ _ (sorted-map_joined o exact join rest (put_joined R join xs e.0 e.1) put)
       (sorted-map_joined o exact join left xs s) (λ q.
-      lookup-map_joined o exact join q rest (put_joined R join xs e.0 e.1) put (front_ascends rest e u)
+      lookup-map_joined o exact join q rest (put_joined R join xs e.0 e.1) put (front_ascends R rest e u)
       ∙ ap (λ v. joined_options join v (lookup (is_at (R q)) rest)) (lookup-put_joined o exact join q e.0 e.1 xs s)
       ∙ last_found join q xs rest e u (is_at (R q) e.0) refl
       ∙ ap (λ es. joined_options join (lookup (is_at (R q)) xs) (lookup (is_at (R q)) es)) (sym are)

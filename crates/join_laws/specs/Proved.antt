@@ -3,5 +3,6 @@ pub mod Options
 pub mod Orders
 pub mod Sets
 pub mod Pairs
+pub mod Ascending
 pub mod Maps
 pub mod Exact

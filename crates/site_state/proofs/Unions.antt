@@ -13,6 +13,7 @@ use Rattle.std.specs.List.{AllByRecursion}
 use Rattle.std.specs.List.Sorted.{IsStrictlySortedBy}
 use Rattle.std.specs.FinMap.{entries, get-entries, get-empty, empty}
 use Rattle.std.proofs.lemmas.Option.{same_Some as some_is}
+use Rattle.join_laws.specs.Proved.Ascending.{below_last, front_ascends}
 use Rattle.operation.specs.declared.op.Op.{Op}
 use Rattle.operation.specs.Spelling.{digest_of}
 use Rattle.site_state.specs.Site.{Map, digest_cmp, of_entries, held_at, IsSite, HasOther, HasNoOther}
@@ -143,11 +144,6 @@ entry_added m n d o es fs added parts =
     ap (λ k. union k (of_entries fs)) added ∙ associative m (of_entries ((d, o) ∷ [])) (of_entries fs)
     ∙ ap (union m) (first_and_rest d o fs) ∙ ap (λ xs. union m (of_entries xs)) (sym parts)
 
-below_last : (k : List ℕ) (fs : List (List ℕ × Op)) (d : List ℕ) (o : Op)
-    → AllByRecursion (λ (x : List ℕ). digest_cmp k x ≡ Less) (keys_of (fs ++ (d, o) ∷ [])) → digest_cmp k d ≡ Less
-below_last k [] d o all = all.0
-below_last k (f ∷ fs) d o all = below_last k fs d o all.1
-
 -- of two entries of two digests either may be looked at first
 either_first : (first last : Bool) (p o : Op) (r : Option Op) → (first ≡ true → last ≡ true → ⊥)
     → cond last (Some o) (cond first (Some p) r) ≡ cond first (Some p) (cond last (Some o) r)
@@ -165,22 +161,10 @@ last_at (f ∷ fs) d o ascend q =
     either_first (is_at (digest_cmp q) f.0) (is_at (digest_cmp q) d) f.1 o (held fs q) (λ here there.
     let one : f.0 ≡ d = sym (tied q f.0 here) ∙ tied q d there in
     let less : digest_cmp d d ≡ Less =
-    ap (λ k. digest_cmp k d) (sym one) ∙ below_last f.0 fs d o ascend.0 in
+    ap (λ k. digest_cmp k d) (sym one) ∙ below_last digest_cmp f.0 fs (d, o) ascend.0 in
     let both : Equal ≡ Less = sym (tied_itself nat_list_cmp_total d) ∙ less in
     cc)
     ∙ ap (cond (is_at (digest_cmp q) f.0) (Some f.1)) (last_at fs d o ascend.1 q)
-
-front_ascends : (fs : List (List ℕ × Op)) (d : List ℕ) (o : Op)
-    → IsStrictlySortedBy digest_cmp (keys_of (fs ++ (d, o) ∷ [])) → IsStrictlySortedBy digest_cmp (keys_of fs)
-unfolding IsStrictlySortedBy
-front_ascends [] d o ascend = tt
-front_ascends (f ∷ fs) d o ascend = (front_below f.0 fs ascend.0, front_ascends fs d o ascend.1)
-  where
-    front_below : (k : List ℕ) (gs : List (List ℕ × Op))
-        → AllByRecursion (λ (x : List ℕ). digest_cmp k x ≡ Less) (keys_of (gs ++ (d, o) ∷ []))
-        → AllByRecursion (λ (x : List ℕ). digest_cmp k x ≡ Less) (keys_of gs)
-    front_below k [] all = tt
-    front_below k (g ∷ gs) all = (all.0, front_below k gs all.1)
 
 -- the last entry was added, and the others are left
 pub last_added : (m n : Map) (d : List ℕ) (o : Op) (es fs : List (List ℕ × Op))
@@ -192,7 +176,7 @@ last_added m n d o es fs added ascend parts =
           ∙ ap (union m) (same_sites _ _ (λ q. get_held ((d, o) ∷ fs) q ∙ last_at fs d o all q
           ∙ sym (get_held (fs ++ (d, o) ∷ []) q)))
           ∙ ap (λ xs. union m (of_entries xs)) (sym parts),
-      front_ascends fs d o all,
+      front_ascends digest_cmp fs (d, o) all,
     )
 
 -- nothing is left

@@ -3,7 +3,8 @@ use Rattle.std.specs.List.Sorted.{IsStrictlySortedBy}
 use Rattle.std.specs.Map.{keys_of}
 use Rattle.join_laws.specs.MapOf.{map_joined}
 use Rattle.join_laws.specs.Proved.Maps.{sorted-put_joined}
-use Rattle.join_laws.proofs.Backwards.{front_ascends, last_entry_first}
+use Rattle.join_laws.proofs.Backwards.{last_entry_first}
+use Rattle.join_laws.specs.Proved.Ascending.{front_ascends}
 use Rattle.join_laws.proofs.map_of.put_all.Goals as goal
 
 -- The last entry that is left is taken in before the others.
@@ -26,6 +27,6 @@ loop-key-preserved g c =
           ∙ c.loop-key.invariant.joined;
       ordered = subst (λ es. IsStrictlySortedBy R (keys_of es)) (sym put)
           (sorted-put_joined total exact join key value was ordered);
-      left = front_ascends total exact rest (key, value)
+      left = front_ascends _ rest (key, value)
           (subst (λ es. IsStrictlySortedBy R (keys_of es)) c.in-Some.ensures.steps c.loop-key.invariant.left);
     }
