@@ -158,12 +158,6 @@ module _ {D : Type 0} (g : Ghosts D) where
       subst (λ (o : Op). Tells g new (cs ++ told_of (o ∷ []))) (sym of)
       (subst (λ (c : ContentParts). Tells g new (cs ++ without_notes (c ∷ []))) stands tells)
 
-  -- of a correction nothing is told
-  pub none_of : (log : RecordLog D) (op : Op) (cs : List ContentParts) → content_in op ≡ None → Tells g log cs
-      → Tells g log (cs ++ told_of (op ∷ []))
-  none_of log (a_content c) cs none tells = absurd cc
-  none_of log (a_correction k) cs none tells = subst (Tells g log) (sym (append-nil cs)) tells
-
   -- so far those were added of a group that are told to be new, and the others are left
   pub record AreNewAdded (log : RecordLog D) (ops : List Op) (told left : List Kept) (i : ℕ)
       (cs : List ContentParts) : Type 0 where
@@ -237,12 +231,14 @@ module _ {D : Type 0} (g : Ghosts D) (told : List ContentParts) (ops : List Op) 
     pub done : List ContentParts
     pub tells : Tells g log (cs ++ without_notes done)
     pub others : (later : List ContentParts) → AreOthers rest (drop i ops) later → AreOthers told ops (done ++ later)
+    pub left : IsLeft told ops rest i
 
   pub none_added : (log : RecordLog D) → Tells g log cs → AreAdded log told 0
   none_added log tells = record {
     done = [];
     tells = subst (Tells g log) (sym (append-nil cs)) tells;
     others = λ later are. are;
+    left = (λ order. order, λ order. order);
   }
 
   module _ (rest : List ContentParts) (i : ℕ) (op : Op) (low : i < length ops) (at : op ≡ get_or ops i op) where
@@ -258,6 +254,7 @@ module _ {D : Type 0} (g : Ghosts D) (told : List ContentParts) (ops : List Op) 
       tells = was.tells;
       others = λ later are. was.others later (onward later
           (subst (λ (o : Op). AreOthers rest (o ∷ drop (i + 1) ops) later) (sym is) (inl (behind, names, are))));
+      left = left_taken told ops rest i op d behind low at is names was.left;
     }
 
     -- another is added
@@ -273,8 +270,8 @@ module _ {D : Type 0} (g : Ghosts D) (told : List ContentParts) (ops : List Op) 
           (step (cs ++ without_notes was.done) was.tells);
       others = λ later are. subst (AreOthers told ops) (sym (append_assoc was.done (d ∷ []) later))
           (was.others (d ∷ later) (onward (d ∷ later)
-          (subst (λ (o : Op). AreOthers rest (o ∷ drop (i + 1) ops) (d ∷ later)) (sym is)
-          (inr (other, (later, refl, are))))));
+          (subst (λ (o : Op). AreOthers rest (o ∷ drop (i + 1) ops) (d ∷ later)) (sym is) (inr (later, refl, are)))));
+      left = left_other told ops rest i op d low at is other was.left;
     }
 
     -- a correction is passed
@@ -283,6 +280,7 @@ module _ {D : Type 0} (g : Ghosts D) (told : List ContentParts) (ops : List Op) 
       done = was.done;
       tells = was.tells;
       others = λ later are. was.others later (onward later (behind op none later are));
+      left = left_correction told ops rest i op low at none was.left;
     }
       where
         behind : (o : Op) → content_in o ≡ None → (later : List ContentParts) → AreOthers rest (drop (i + 1) ops) later
@@ -290,12 +288,14 @@ module _ {D : Type 0} (g : Ghosts D) (told : List ContentParts) (ops : List Op) 
         behind (a_content d) none later are = absurd cc
         behind (a_correction k) none later are = are
 
-  -- no operation is left
-  pub others_added : (log : RecordLog D) (rest : List ContentParts) (i : ℕ) → length ops ≤ i → AreAdded log rest i
+  -- no operation is left, and of what is told, which is in order, none either
+  pub others_added : (log : RecordLog D) (rest : List ContentParts) (i : ℕ) → length ops ≤ i → AreInOrder told ops
+      → AreAdded log rest i
       → (others : List ContentParts) × AreOthers told ops others × Tells g log (cs ++ without_notes others)
-  others_added log rest i high was = (
+  others_added log rest i high order was = (
     was.done,
     subst (AreOthers told ops) (append-nil was.done)
-        (was.others [] (subst (λ (os : List Op). AreOthers rest os []) (sym (none_left ops i high)) refl)),
+        (was.others [] (subst (λ (os : List Op). AreOthers rest os []) (sym (none_left ops i high))
+        ((left_none told ops rest i high was.left).0 order, refl))),
     was.tells,
   )

@@ -76,7 +76,7 @@ fn add_others<D: Disk + Drop>(
 ) -> bool
     ensures order { IsTrue result ↔ AreInOrder told.now recorded.now }
     ensures given_up { result ≡ false → IsGivenUp records.new }
-    // Those that were not told are added, but for rejection notes.
+    // Those that are not told are added, in their order, but for rejection notes.
     ensures added { IsTrue result → (cs : List ContentParts) → Tells D.Disk records.old cs
         → (others : List ContentParts) × AreOthers told.now recorded.now others
         × Tells D.Disk records.new (cs ++ without_notes others) }

@@ -32,4 +32,4 @@ loop-op-preserved g c = elim c.match-content.branch [
 pub returns-clause-added : goal.returns-clause-added
 returns-clause-added g c true cs tells =
     others_added g.D.Disk c.args.told.now c.args.recorded.now cs c.loop-op.records c.loop-op.rest.now c.loop-op.op-index
-    c.loop-op-test.false (c.loop-op.invariant cs tells)
+    c.loop-op-test.false (c.are_in_order.ensures.0 c.if-not-are_in_order.false) (c.loop-op.invariant cs tells)
