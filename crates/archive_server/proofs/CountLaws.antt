@@ -1,7 +1,7 @@
 -- Laws of what threads have accepted and which fault they tell.
 use Rattle.std.proofs.Common.{◌≡◌, ◌⊎◌, ◌+◌, ◌*◌, ◌≤◌, ℕ, List, [], ◌∷◌, ◌++◌, length, min, suc}
 use Rattle.std.proofs.Common.{refl, sym, subst, ap, inl, inr, ◌∙◌}
-use Rattle.std.proofs.Common.{Bool, Option, Some, None, IsSome, IsTrue, arith}
+use Rattle.std.proofs.Common.{Bool, true, false, cond, Option, Some, None, IsSome, IsTrue, arith}
 use mathlib.Core.List.{IsPrefix}
 use Rattle.std.specs.Option.{option_or}
 use Rattle.std.proofs.lemmas.Bool.{cases_lt, false≢true}
@@ -35,6 +35,14 @@ told_first (Some x) g told = refl
 pub told_then : (f g : Option ServeFault) → IsSome g → IsSome (option_or f g)
 told_then None g told = told
 told_then (Some x) g told = refl
+
+-- an accept that failed is a fault, unless the server was ended, which somebody may do
+pub told_of_none : {E : Type 0} (ending : Option E) (is_ended : Bool) (before after : Option ServeFault) (x : ServeFault)
+    (failed more : ℕ) → (IsTrue is_ended → IsSome ending) → after ≡ cond is_ended before (option_or before (Some x))
+    → IsSome ending ⊎ IsSome before ⊎ (failed ≡ 0) → IsSome ending ⊎ IsSome after ⊎ (more ≡ 0)
+told_of_none ending true before after x failed more may is so_far = inl (may refl)
+told_of_none ending false before after x failed more may is so_far =
+    inr (inl (subst (λ (f : Option ServeFault). IsSome f) (sym is) (told_then before (Some x) refl)))
 
 -- what two have accepted is what both may, or one tells a fault, or somebody may end them
 pub all_of_both : (ends : Bool) (a b limit own : ℕ) (f g : Option ServeFault)
