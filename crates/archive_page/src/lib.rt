@@ -3,10 +3,10 @@
 //! Nothing here reads a socket or a site: a request is a method and a path, a page is a heading and
 //! rows, and an answer is a status, a media type and a text. No answer depends on anything else.
 //!
-//! What a client stored is text in HTML and in JSON that it cannot break out of. A value is bytes in
-//! whatever character set; as text it is UTF-8: its own bytes where they are UTF-8, and else a
-//! character of Latin-1 for each byte. In HTML each byte of that which could make markup stands as a
-//! reference; in JSON it is the text of a string.
+//! What a client stored is text in HTML and in JSON that it cannot break out of. A value is bytes
+//! in whatever character set; as text it is UTF-8: its own bytes where they are UTF-8, and else a
+//! character of Latin-1 for each byte. In HTML each byte of that which could make markup stands as
+//! a reference; in JSON it is the text of a string.
 #![tactic(auto)]
 
 mod answer;

@@ -6,9 +6,9 @@
 //!
 //! What a C-GET sends is what a view shows of a selection, corrected, in a transfer syntax that is
 //! accepted. A data set that needs no change is the stored one, whose bytes are shared with the
-//! site. `list` finds what is to be sent and holds no byte of a data set, so that each can be loaded
-//! when its turn comes; `get` loads and makes them all at once, over a site in memory that has the
-//! whole operations.
+//! site. `list` finds what is to be sent and holds no byte of a data set, so that each can be
+//! loaded when its turn comes; `get` loads and makes them all at once, over a site in memory that
+//! has the whole operations.
 #![tactic(auto)]
 
 mod candidates;

@@ -1,6 +1,6 @@
-//! The C-STOREs that are not answered with success, and the rows that C-FINDs are answered with, read
-//! off the bytes that are written: command sets are put together of presentation data values (PS3.8,
-//! sections 9.3.5 and E.2). Each refused store is told once its response is whole.
+//! The C-STOREs that are not answered with success, and the rows that C-FINDs are answered with,
+//! read off the bytes that are written: command sets are put together of presentation data values
+//! (PS3.8, sections 9.3.5 and E.2). Each refused store is told once its response is whole.
 
 ghost use Rattle.std.specs.Prelude.{◌≡◌, ◌<◌, ◌≤◌, IfSome, IsTrue, Some, length};
 ghost use Rattle.dimse.specs.Command.{Spells};
@@ -103,8 +103,8 @@ fn is_row_in(alloc: Global, text: &[u8]) -> bool
     }
 }
 
-/// The presentation data values of what is written to a peer, of which rows are counted, and refused
-/// stores are told where lines are asked for.
+/// The presentation data values of what is written to a peer, of which rows are counted, and
+/// refused stores are told where lines are asked for.
 #[derive(Drop)]
 pub(crate) struct Answers<'a, S: Clock + Log> {
     rt: &'a S,

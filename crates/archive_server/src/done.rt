@@ -233,8 +233,8 @@ impl<H: HubName, N: LedgerName> Done<H, N> {
         (Done::with_one(clerk, accepted, failed, fault), ended)
     }
 
-    /// One more that came for a page, over any reader and writer, who is told what the server knows of
-    /// itself. A connection that broke is no fault.
+    /// One more that came for a page, over any reader and writer, who is told what the server knows
+    /// of itself. A connection that broke is no fault.
     pub fn with_pages<I: Read, O: Write>(
         self,
         alloc: Global,

@@ -70,8 +70,8 @@ impl Health {
     }
 }
 
-/// What the last put came to is read back from its number: a law, said as the contract of a function
-/// with nothing to do.
+/// What the last put came to is read back from its number: a law, said as the contract of a
+/// function with nothing to do.
 pub fn each_end_of_a_put_has_its_number()
     ensures { (last : Option AFault) → last_of (number_of_last last) ≡ last }
 {}

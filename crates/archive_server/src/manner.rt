@@ -12,8 +12,9 @@ pub struct Manner<'a> {
     /// Set once the server is to end: then nobody accepts any more, and an accept that fails is no
     /// fault. Who waits in an accept must be woken. Where there is none, nobody may end it.
     pub ending: Option<&'a AtomicBool>,
-    /// How long each wait for a peer lasts at most: to be connected, for a byte to come, or for room
-    /// to write one. Time runs only while the server waits. Where there is none, a wait has no end.
+    /// How long each wait for a peer lasts at most: to be connected, for a byte to come, or for
+    /// room to write one. Time runs only while the server waits. Where there is none, a wait has no
+    /// end.
     pub idle: Option<Duration>,
     /// How many bytes of memory the operations may hold that were put or loaded last: they are not
     /// read again while they are remembered.

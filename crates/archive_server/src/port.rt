@@ -213,8 +213,8 @@ impl<
     fn store(&mut self, content: Content) -> Result<Taken, PortFault>
         ensures stores { Stores (λ (s : Seat). ops_of (set_of H.opening s.seen))
             (λ (s : Seat). s.mine) self.old (op_in (a_content content)) result self.new }
-        // What the pass has seen published is told as taken, and what is refused the shelf or the hub
-        // refused in this call.
+        // What the pass has seen published is told as taken, and what is refused the shelf or the
+        // hub refused in this call.
         ensures refused { OnErr result (self.new.seen ≡ self.old.seen) }
         ensures why { IfErr result
             (RefusesStore P.refuses self.old self.new (a_content content)) }

@@ -51,7 +51,8 @@ fn is_over<S: Wait>(rt: &S, ended: &Receiver<()>) -> bool {
 }
 
 /// How long is rested behind a page that was made in so long: a publish waits for the look that is
-/// under way, so pages have a tenth of the time, as long as each is made within a fifth of a second.
+/// under way, so pages have a tenth of the time, as long as each is made within a fifth of a
+/// second.
 pub(crate) fn rest_behind(made: Duration) -> Duration
     ensures rest { as_nanos result ≡ min (as_nanos made * 9) 2_000_000_000 }
 {

@@ -165,8 +165,8 @@ fn next<H: HubName, T: Shows<H>, R: Wait + Drop, S: Wait + Clock + Log, N: Ledge
     }
 }
 
-/// Accepts `each` times, or until the server is ended, unless memory was refused for the buffer that
-/// serves all its associations.
+/// Accepts `each` times, or until the server is ended, unless memory was refused for the buffer
+/// that serves all its associations.
 pub(crate) fn work<
     H: HubName,
     T: Shows<H>,

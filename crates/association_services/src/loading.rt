@@ -1,4 +1,5 @@
-//! A sub-operation whose content is awaited of the port (PS3.7, section 9.1.3; PS3.4, section C.4.3).
+//! A sub-operation whose content is awaited of the port (PS3.7, section 9.1.3; PS3.4, section
+//! C.4.3).
 
 ghost use Rattle.std.specs.Prelude.{◌≡◌, IfOk, All};
 ghost use Rattle.pdu.specs.Spelling.{IsPdu};

@@ -306,8 +306,8 @@ pub fn few(reply: Result<ListOf<Listed>, PortFault>) -> Option<ListOf<Listed>>
     }
 }
 
-/// Fails the sub-operation of this instance unsent: its PDUs are the pending response where some are left, and these
-/// go on.
+/// Fails the sub-operation of this instance unsent: its PDUs are the pending response where some
+/// are left, and these go on.
 pub(crate) fn fail(
     alloc: Global,
     progress: Progress,

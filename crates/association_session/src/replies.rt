@@ -171,8 +171,8 @@ impl Association {
         self.take(reply)
     }
 
-    /// Begins the next of the sub-operations that are left, for which the port is asked its content;
-    /// and behind the last one ends them.
+    /// Begins the next of the sub-operations that are left, for which the port is asked its
+    /// content; and behind the last one ends them.
     pub(crate) fn send_on(&mut self, retrieval: Retrieval) -> Result<Deeds, AllocError>
         requires { self.old.awaited ≡ None }
         ensures turned { (titles : List (Title View)) → IfOk result (λ deeds.

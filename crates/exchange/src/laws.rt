@@ -46,7 +46,8 @@ pub fn a_have_that_is_seen_to_have_all_has_it()
 {}
 
 /// Where a HAVE has room for any one place, each exchange in parts makes two sites hold the same in
-/// one place more, the first in which they did not; so 256 exchanges are enough, whatever they hold.
+/// one place more, the first in which they did not; so 256 exchanges are enough, whatever they
+/// hold.
 pub fn exchanges_in_parts_end()
     ensures { PartsEnd }
 {}

@@ -13,8 +13,8 @@ pub fn an_exchange_gives_all<A: Holder, B: Holder>()
     ensures { ExchangeGivesAll A.holds A.alone B.holds B.alone }
 {}
 
-/// Where both are finished, what differs fits into one HAVE each way, and nobody else changes either
-/// holder, both hold the same in the end.
+/// Where both are finished, what differs fits into one HAVE each way, and nobody else changes
+/// either holder, both hold the same in the end.
 pub fn an_exchange_makes_holders_equal<A: Holder, B: Holder>()
     ensures { ExchangeMakesEqual A.holds A.alone B.holds B.alone }
 {}

@@ -239,8 +239,8 @@ impl<
     fn take(&mut self, op: Digested) -> Result<Taken, HolderFault>
         ensures takes { TakesIn (λ (s : Seat). set_of H.opening s.seen) (λ _. ⊥) self.old op result
             self.new }
-        // What the pass has seen published is told as taken, and what is refused the shelf or the hub
-        // refused in this call.
+        // What the pass has seen published is told as taken, and what is refused the shelf or the
+        // hub refused in this call.
         ensures refused { OnErr result (self.new.seen ≡ self.old.seen) }
         ensures why { IfErr result (RefusesAtHub P.refuses H.opening self.old self.new op) }
     {

@@ -7,10 +7,10 @@
 //! of the record that is held. What the holder of a running site has is what its pass has seen.
 //! `Put` is a way to a shelf, which may stand in another thread.
 //!
-//! Who has the [`Ledger`] writes down what the shelf has, and nobody else can: a list that is in the
-//! proofs alone, as a history of `logbook`; at run time a line is two steps on a word that nobody
-//! else has. An [`Extract`] goes to other threads, takes no bytes, and is a beginning of the ledger,
-//! as [`Ledger::compare`] shows.
+//! Who has the [`Ledger`] writes down what the shelf has, and nobody else can: a list that is in
+//! the proofs alone, as a history of `logbook`; at run time a line is two steps on a word that
+//! nobody else has. An [`Extract`] goes to other threads, takes no bytes, and is a beginning of the
+//! ledger, as [`Ledger::compare`] shows.
 #![tactic(auto)]
 
 mod asking;

@@ -73,8 +73,8 @@ pub fn put_all<K: Keep, N: LedgerName>(
     Ok(())
 }
 
-/// Reads what lies under a digest on a shelf, which nobody has hashed yet. What was written into the
-/// shelf's ledger is still kept.
+/// Reads what lies under a digest on a shelf, which nobody has hashed yet. What was written into
+/// the shelf's ledger is still kept.
 pub fn read_kept<K: Keep, N: LedgerName>(
     shelf: &mut K,
     _ledger: &Ledger<N>,

@@ -74,8 +74,8 @@ impl<K: Exact> GrowSet<K> {
     }
 }
 
-// Puts in a copy of each key of the other set, the last one first: a tree is searched from its least
-// key on. What was put in before memory was refused stays.
+// Puts in a copy of each key of the other set, the last one first: a tree is searched from its
+// least key on. What was put in before memory was refused stays.
 fn put_all<K: Exact>(into: &mut BTreeSet<K>, other: &BTreeSet<K>) -> Result<(), AllocError>
     ensures ok { OnOk result (into.new.keys ≡ union_of K.cmp into.old.keys other.now.keys) }
     ensures ordered { IsStrictlySortedBy K.cmp other.now.keys }
@@ -130,8 +130,8 @@ fn put_noted<'a, K: Exact>(
     Ok(())
 }
 
-// Puts in a copy of each key of the other set, the last one first, and notes those that were absent.
-// Where memory is refused, the set stays as it was.
+// Puts in a copy of each key of the other set, the last one first, and notes those that were
+// absent. Where memory is refused, the set stays as it was.
 fn join_sets<'a, K: Exact>(
     alloc: Global,
     into: &mut BTreeSet<K>,

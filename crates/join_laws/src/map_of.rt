@@ -122,8 +122,8 @@ fn put<K: Exact, J: Join + Copies>(
     }
 }
 
-// Takes in each entry of the other map, the last one first: a tree is searched from its least key on.
-// What was taken in before memory was refused stays.
+// Takes in each entry of the other map, the last one first: a tree is searched from its least key
+// on. What was taken in before memory was refused stays.
 fn put_all<K: Exact, J: Join + Copies>(
     into: &mut BTreeMap<K, J>,
     other: &BTreeMap<K, J>,
@@ -246,8 +246,8 @@ fn put_noted<'a, K: Exact, J: Join + Copies>(
     }
 }
 
-// Takes in each entry of the other map, the last one first, and notes what was there. Where memory is
-// refused, the map stays as it was.
+// Takes in each entry of the other map, the last one first, and notes what was there. Where memory
+// is refused, the map stays as it was.
 fn join_maps<'a, K: Exact, J: Join + Copies>(
     alloc: Global,
     into: &mut BTreeMap<K, J>,

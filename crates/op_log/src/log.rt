@@ -364,8 +364,9 @@ impl<H: Disk, B: Disk> OpLog<H, B> {
         all_records(alloc, &mut self.bodies, &self.places)
     }
 
-    /// The same. Data sets of 16 KiB and more are hashed in as many threads as there are processors,
-    /// 16 at most, while the next are read: up to 8 MiB of them are in memory at once, or two alone.
+    /// The same. Data sets of 16 KiB and more are hashed in as many threads as there are
+    /// processors, 16 at most, while the next are read: up to 8 MiB of them are in memory at once,
+    /// or two alone.
     pub fn records_with<R: Threads + Sync>(
         &mut self,
         rt: &R,

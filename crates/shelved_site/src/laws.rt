@@ -12,8 +12,8 @@ ghost use Rattle.shelved_site.specs.RecordLaws.{HoldsTheirRecords, ReportsTheSam
 use op_shelf::Keep;
 use sqlite_disk::Disk;
 
-/// Whatever keeps operations, a shelf or a log: two that kept the same, and took the same puts, keep
-/// the same.
+/// Whatever keeps operations, a shelf or a log: two that kept the same, and took the same puts,
+/// keep the same.
 pub fn the_same_puts_keep_the_same<A: Keep, B: Keep>()
     ensures { (a c : A) (b d : B) (ops : List Op) (kepts told : List Kept)
         → AreSame (A.holds a) (B.holds b) → GainsAll (A.holds a) (A.holds c) ops kepts

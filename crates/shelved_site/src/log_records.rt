@@ -133,8 +133,8 @@ impl<H: Disk, B: Disk> KeptLog<H, B> {
 }
 
 /// The site of a log, as `site_on` tells that of a store. The data sets of contents that are told
-/// are not read; the others are hashed in as many threads as there are processors, and their records
-/// are added to those beside the log. The log stays as it is.
+/// are not read; the others are hashed in as many threads as there are processors, and their
+/// records are added to those beside the log. The log stays as it is.
 pub fn site_on_log<H: Disk + Drop, B: Disk, T: Threads + Sync, P: Hearing>(
     alloc: Global,
     threads: &T,

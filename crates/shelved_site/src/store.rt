@@ -79,8 +79,8 @@ pub trait Store: Keep {
         ensures why { is_clean self.new → IfErr result (refuses_count self.old kind self.new) }
         ensures clean { is_clean self.new → is_clean self.old };
 
-    /// Tests each operation against its digest. What it has cause to refuse is as of `all`, but that
-    /// an operation that is not the one of its digest is no fault here.
+    /// Tests each operation against its digest. What it has cause to refuse is as of `all`, but
+    /// that an operation that is not the one of its digest is no fault here.
     fn verify<T: Testing>(&mut self, hearing: &T) -> Result<Verified, ShelfFault>
         ensures verified { is_clean self.new → IfOk result
             (λ told. verifies self.old told.operations told.damaged.items) }

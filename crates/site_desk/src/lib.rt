@@ -1,14 +1,14 @@
-//! The desk of a running site: a correction that a request asks for is made, put on the shelf, taken
-//! by the hub, and then answered, over any reader and writer.
+//! The desk of a running site: a correction that a request asks for is made, put on the shelf,
+//! taken by the hub, and then answered, over any reader and writer.
 //!
 //! Its stamp comes next over what a look of the pass sees, and over what this desk has made: so no
 //! two corrections of a desk have one stamp, also where the hub has not taken the first yet. The
 //! connection (HTTP, RFC 9112) is the kit's, which refuses with a status of 4xx or 5xx what is no
-//! request; one request is answered on it, so that no peer holds the thread beyond its request. What
-//! a request says are four words, as `archive correct` has them.
+//! request; one request is answered on it, so that no peer holds the thread beyond its request.
+//! What a request says are four words, as `archive correct` has them.
 //!
-//! Who asks a running site is here too: the requests for a correction and for a page, and what their
-//! answers tell.
+//! Who asks a running site is here too: the requests for a correction and for a page, and what
+//! their answers tell.
 #![tactic(auto)]
 
 mod answer;

@@ -20,8 +20,8 @@ use records::RecordedOp;
 use site_state::Site;
 use std::sync::Wait;
 
-/// The correction of these parts that comes next at a site of a number: its counter is one more than
-/// the greatest of all that the site has.
+/// The correction of these parts that comes next at a site of a number: its counter is one more
+/// than the greatest of all that the site has.
 pub fn next_correction(
     site: &Site,
     number: u16,

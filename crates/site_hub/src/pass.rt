@@ -107,8 +107,8 @@ impl<H: HubName> Pass<H> {
         self.seen = self.seen.longer(&told.front);
     }
 
-    /// The rows of a C-FIND (PS3.4, section C.4.1). Its keys are made ready; then one look takes what
-    /// the rows are made of; keys are matched, and rows made, behind it.
+    /// The rows of a C-FIND (PS3.4, section C.4.1). Its keys are made ready; then one look takes
+    /// what the rows are made of; keys are matched, and rows made, behind it.
     pub fn find(&mut self, view: View, called: &[u8], query: &Query) -> Result<Answers, HubFault>
         ensures rows { IfOk result (λ rows. rows ≡
             rows_of view called.now query.now (ops_of (set_of H.opening self.new.seen))) }
@@ -128,8 +128,8 @@ impl<H: HubName> Pass<H> {
         }
     }
 
-    /// What a C-GET lists, before any data set is loaded (PS3.4, section C.4.3): it holds no byte of
-    /// one.
+    /// What a C-GET lists, before any data set is loaded (PS3.4, section C.4.3): it holds no byte
+    /// of one.
     pub fn list(&mut self, view: View, selection: &Selection) -> Result<Vec<Listed>, HubFault>
         ensures listed { IfOk result (λ found. found.items ≡ list_of view selection.now
             (ops_of (set_of H.opening self.new.seen))) }

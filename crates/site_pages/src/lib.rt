@@ -1,13 +1,13 @@
-//! The pages of a running site: each is made of the operations that the site holds, of its name, and
-//! of what its server knows of itself, and is answered over any reader and writer.
+//! The pages of a running site: each is made of the operations that the site holds, of its name,
+//! and of what its server knows of itself, and is answered over any reader and writer.
 //!
 //! A look of a pass takes what a page is made of and ends; it waits for nobody and changes nothing.
 //! Rows, texts and markup are made behind it, so that no publish waits for them. The connection
 //! (HTTP, RFC 9112) is the kit's, which refuses with a status of 4xx or 5xx what is no request; one
 //! request is answered on it, so that no peer holds the thread beyond its request.
 //!
-//! What a server counts is here too: what has ended comes in, and numbers go out, without a clock. A
-//! number that would overrun stays at the greatest that a u64 has. A second is one of the server:
+//! What a server counts is here too: what has ended comes in, and numbers go out, without a clock.
+//! A number that would overrun stays at the greatest that a u64 has. A second is one of the server:
 //! how many have passed since it began.
 #![tactic(auto)]
 

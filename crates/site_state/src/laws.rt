@@ -51,8 +51,8 @@ pub fn operations_ascend_by_digest()
 {}
 
 /// What stands for the operations of a site, each whole and under its digest, has their records. So
-/// it has their digests, their rows, their flagged SOP Instance UIDs, their counts and their greatest
-/// counter.
+/// it has their digests, their rows, their flagged SOP Instance UIDs, their counts and their
+/// greatest counter.
 pub fn records_say_the_same()
     ensures records { RecordsAreKept }
     ensures digests { DigestsAreKept }

@@ -180,7 +180,8 @@ impl WholeSite {
         Ok(Taken::New)
     }
 
-    /// Each operation that is held lies under its digest. Nothing is done: this is a fact for callers.
+    /// Each operation that is held lies under its digest. Nothing is done: this is a fact for
+    /// callers.
     pub fn see_lawful(&self)
         ensures own { IsSite self.now }
     {
