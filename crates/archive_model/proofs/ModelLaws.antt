@@ -1,44 +1,44 @@
 -- What the definitions mean, member by member.
-use Rattle.std.proofs.Common.{◌≡◌, ℕ, ◌<◌, ◌≤◌, List, [], ◌∷◌, Bool, true, false, cond, Option, Some, None, IsTrue}
+use Rattle.std.proofs.Common.{◌≡◌, ℕ, ◌<◌, List, [], ◌∷◌, Bool, true, false, cond, Option, Some, None}
 use Rattle.std.proofs.Common.{refl, sym, ap, ◌∙◌, subst, inl, inr, ◌⊎◌, map, length, arith}
-use Rattle.std.specs.Prelude.{◌↔◌, ◌||◌, nat_eq, nat_lt, ◌==◌, if◌then◌else◌}
+use Rattle.std.specs.Prelude.{◌==◌, if◌then◌else◌}
 use Rattle.std.proofs.lemmas.Bool.{false≢true, and_parts as and_true, and_from as true_and}
 use borrow.Author.Tests.{ltb-true, lt-ltb, eq-eqb}
-use Rattle.std.specs.Ordering.{nat_cmp, is_le, is_lt, ordering_then, ordering_reverse, match_ordering}
+use Rattle.std.specs.Ordering.{nat_cmp, is_le, ordering_then, ordering_reverse}
 use Rattle.std.specs.declared.cmp.Ordering.{Ordering}
 use Rattle.std.specs.declared.cmp.Ordering.TheVariants.{Less, Equal, Greater}
-use Rattle.std.specs.Cmp.{IsTotalOrder, tied_itself, alike_right}
-use Rattle.std.specs.Cmp.Lexicographic.{slice_cmp, nat_list_cmp_total, nat_list_eq_equiv, pointwise, bytes_decides}
+use Rattle.std.specs.Cmp.{tied_itself}
+use Rattle.std.specs.Cmp.Lexicographic.{nat_list_cmp_total, bytes_decides}
 use Rattle.std.specs.FinMap.{nat_cmp-IsAntisymmetric, slice_cmp-IsAntisymmetric}
-use Rattle.std.specs.List.{filter, filter_map, cons_option, find, list_any, list_all, AllByRecursion}
+use Rattle.std.specs.List.{filter, filter_map, cons_option, AllByRecursion}
 use Rattle.std.specs.List.Sorted.{IsStrictlySortedBy}
 use Rattle.std.proofs.lemmas.Option.{same_Some as some_content}
 use Rattle.rejection_note.specs.declared.note.Note.{Note}
 use Rattle.rejection_note.specs.declared.title.NoteTitle.{NoteTitle}
 use Rattle.rejection_note.specs.declared.title.NoteTitle.TheVariants.{Quality, Safety, Worklist, Expired}
-use Rattle.archive_model.specs.Index.{code_of, names_under, is_titled, CoveredByTitles}
+use Rattle.archive_model.specs.Index.{code_of, names_under, CoveredByTitles}
 use Rattle.operation.specs.declared.op.Op.{Op}
 use Rattle.operation.specs.declared.op.Op.TheVariants.{Content as a_content, Correction as a_correction}
-use Rattle.operation.specs.Parts.{ContentParts, CorrectionParts}
+use Rattle.operation.specs.Parts.{ContentParts}
 use Rattle.operation.specs.Spelling.{digest_of}
 use Rattle.archive_model.specs.declared.view.View.{View}
-use Rattle.octets.specs.Texts.{same, text_cmp, put, ascending}
+use Rattle.octets.specs.Texts.{same, text_cmp}
 use Rattle.archive_model.specs.View.{hides}
-use Rattle.archive_model.specs.Contents.{content_in, contents, contents_of, is_of_instance, pick, flagged, is_flagged}
+use Rattle.archive_model.specs.Contents.{content_in, contents, contents_of, is_of_instance, pick, is_flagged}
 use Rattle.archive_model.specs.Contents.{instances}
 use Rattle.archive_model.specs.Covered.{is_among, covers, is_covered, is_hiding}
 use Rattle.archive_model.specs.Shown.{shown, shown_at, unless_hiding}
 use Rattle.archive_model.specs.Groups.{is_of_study, is_of_series, first_of}
-use Rattle.archive_model.specs.Attributes.{correction_cmp, is_last, greatest}
+use Rattle.archive_model.specs.Attributes.{correction_cmp, is_last}
 use Rattle.octets.specs.Members.{Has}
-use Rattle.archive_model.specs.Laws.{Ascend, IsNotAfter, GreatestIsLast, SomeHaveGreatest, LastHaveOneValue}
+use Rattle.archive_model.specs.Laws.{GreatestIsLast, SomeHaveGreatest, LastHaveOneValue}
 use Rattle.archive_model.specs.Laws.{PickIsContent, PickIsLeast, ContentsHavePick, CoveredIsNamed, ShownArePicks}
-use Rattle.archive_model.specs.Laws.{FlaggedHaveTwo, ShownAscend, IsLeastOf, StudyRepresentativeIsLeast}
+use Rattle.archive_model.specs.Laws.{FlaggedHaveTwo, ShownAscend, StudyRepresentativeIsLeast}
 use Rattle.archive_model.specs.Laws.{SeriesRepresentativeIsLeast}
 use Rattle.octets.proofs.TextLemmas.{in_ascending, ascending_sorted}
 use Rattle.archive_model.proofs.MemberLaws.{has_all, found_has, none_has, any_has, has_any, has_filter, filter_has}
-use Rattle.archive_model.proofs.MemberLaws.{has_map, map_has, has_filter_map, filter_map_has}
-use Rattle.archive_model.proofs.Latest.{correction_total, latest_from, latest_is_greatest, from_latest}
+use Rattle.archive_model.proofs.MemberLaws.{has_map, has_filter_map, filter_map_has}
+use Rattle.archive_model.proofs.Latest.{correction_total, from_latest}
 
 -- ---- texts
 

@@ -27,7 +27,6 @@ use Rattle.archive_model.specs.Rows.{asked_value, cell_in_row, contents_at, is_a
 use Rattle.archive_model.specs.Rows.{is_unique_key, modalities_of, named, row_at_with, row_of_with, row_with, rows_of}
 use Rattle.archive_model.specs.Rows.{rows_with, uid_at, uids_at}
 use Rattle.archive_model.specs.RecordLaws as laws
-use Rattle.archive_model.specs.RecordLaws.{KeepTheSame}
 use Rattle.archive_model.proofs.Keeping.{filter_kept, map_kept}
 use Rattle.archive_model.proofs.Alike.{Alike, alike_filter, bare, same_correcting, same_shown, sees_attribute, stripped}
 

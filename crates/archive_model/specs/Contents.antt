@@ -1,11 +1,10 @@
 -- The contents of a set of operations. In specs the set is the list of its operations, ascending by digest.
-use Rattle.std.specs.Prelude.{ℕ, List, [], ◌∷◌, Option, Some, None, Bool, nat_lt, map, length}
+use Rattle.std.specs.Prelude.{ℕ, List, Option, Bool, nat_lt, map, length}
 use Rattle.std.specs.List.{filter, filter_map, find}
 use Rattle.dictionary.specs.declared.elements.TheConstants.{MODALITY, PATIENT_ID, SERIES_INSTANCE_UID}
 use Rattle.dictionary.specs.declared.elements.TheConstants.{STUDY_INSTANCE_UID}
 use Rattle.operation.specs.declared.op.Op.{Op}
-use Rattle.operation.specs.declared.op.Op.TheVariants.{Content as a_content, Correction as a_correction}
-use Rattle.operation.specs.Parts.{ContentParts, CorrectionParts, own_value}
+use Rattle.operation.specs.Parts.{ContentParts, own_value}
 use Rattle.octets.specs.Texts.{same, ascending}
 pub use Rattle.records.specs.Parts.{content_in}
 

@@ -1,7 +1,7 @@
 -- The value of an index over a set of operations, written from the set alone: for each SOP Instance UID the digest of
 -- its pick and the digests of its contents, for each UID the titles of the notes that name it, for each target and tag
 -- the greatest correction.
-use Rattle.std.specs.Prelude.{◌≡◌, ◌↔◌, ℕ, List, Option, Some, None, Bool, false, ◌&&◌, ◌==◌, IsTrue, map}
+use Rattle.std.specs.Prelude.{◌↔◌, ℕ, List, Option, Some, None, Bool, false, ◌&&◌, ◌==◌, IsTrue, map}
 use Rattle.std.specs.List.{filter, list_any}
 use Rattle.std.specs.Option.{option_map}
 use Rattle.rejection_note.specs.declared.note.Note.{Note}
@@ -11,7 +11,7 @@ use Rattle.operation.specs.declared.op.Op.{Op}
 use Rattle.operation.specs.declared.op.Op.TheVariants.{Content as a_content, Correction as a_correction}
 use Rattle.operation.specs.declared.target.Target.{Target}
 use Rattle.operation.specs.declared.target.Target.TheVariants.{Study, Patient, Series}
-use Rattle.operation.specs.Parts.{ContentParts, CorrectionParts}
+use Rattle.operation.specs.Parts.{CorrectionParts}
 use Rattle.operation.specs.Spelling.{digest_of}
 use Rattle.octets.specs.Texts.{same}
 use Rattle.archive_model.specs.View.{hides}

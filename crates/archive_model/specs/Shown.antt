@@ -1,10 +1,9 @@
 -- What a view shows.
-use Rattle.std.specs.Prelude.{ℕ, List, [], ◌∷◌, Option, Some, None, Bool, ◌&&◌, not, if◌then◌else◌, map, length}
-use Rattle.std.specs.List.{filter, filter_map}
+use Rattle.std.specs.Prelude.{ℕ, List, Option, Some, None, if◌then◌else◌}
+use Rattle.std.specs.List.{filter_map}
 use Rattle.operation.specs.declared.op.Op.{Op}
 use Rattle.operation.specs.Parts.{ContentParts}
-use Rattle.octets.specs.Texts.{same, ascending}
-use Rattle.archive_model.specs.Contents.{pick, instances, study_of, series_of, modality_of}
+use Rattle.archive_model.specs.Contents.{pick, instances}
 use Rattle.archive_model.specs.Covered.{is_covered, is_hiding}
 use Rattle.archive_model.specs.declared.view.View.{View}
 

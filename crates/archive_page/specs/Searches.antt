@@ -1,6 +1,6 @@
 -- A search for studies, as the query of a request says it.
 use Rattle.std.specs.Prelude.{ℕ, ◌+◌, ◌-◌, ◌*◌, List, [], ◌∷◌, Option, Some, None, Result, Ok, Err, Bool, true, false}
-use Rattle.std.specs.Prelude.{◌||◌, ◌&&◌, not, ◌==◌, nat_lt, cond, length, codes}
+use Rattle.std.specs.Prelude.{◌||◌, not, ◌==◌, nat_lt, cond, length, codes}
 use Rattle.std.specs.List.{find, list_all}
 use Rattle.std.specs.Option.{option_and_then}
 use Rattle.std.specs.Str.Lossy.{utf8_lossy}

@@ -13,16 +13,10 @@ use Rattle.data_set.specs.Set.{Set}
 use Rattle.operation.specs.declared.op.Op.{Op}
 use Rattle.operation.specs.declared.op.Op.TheVariants.{Content as a_content}
 use Rattle.records.specs.StandIn.{IsStandIn}
-use Rattle.operation.specs.Contents.{IsContent, Describes, offence, has_uids, names_itself, note_offence}
 use Rattle.dictionary.specs.Elements.{role_in_table}
 use Rattle.operation.specs.Corrections.{is_corrected}
 use Rattle.operation.proofs.Bounds.{passed}
 use Rattle.records.proofs.StandInLaws.{instance_of_uid}
-use Rattle.operation.proofs.KeyValueLaws.{kept_names}
-use Rattle.rejection_note.specs.Notes.{note_in}
-use Rattle.data_set.specs.Tree.{Tree}
-use Rattle.std.specs.Coded.{Coded-set, coded_list, coded_ℕ}
-use Rattle.std.proofs.Math.Logic.{∥∥₁_elim}
 use Rattle.std.proofs.lemmas.List.{take_all, nil_from_length as nothing}
 use Rattle.join_laws.specs.GrowSet.{union_of}
 use Rattle.operation.specs.Parts.{ContentParts, own_value}

@@ -10,7 +10,7 @@ use Rattle.std.proofs.Math.Nat.{add-le-add, le_refl, add-zero, add_assoc, add_co
 use Rattle.std.proofs.lemmas.List.{length-append}
 use Rattle.site_hub.specs.Hub.{Seat}
 use Rattle.archive_server.specs.declared.fault.ServeFault.{ServeFault}
-use Rattle.archive_server.specs.Done.{Standing, Deeds}
+use Rattle.archive_server.specs.Done.{Deeds}
 use Rattle.archive_server.specs.declared.job.Job.{Job}
 use Rattle.archive_server.specs.declared.job.Job.TheVariants.{Associations}
 use Rattle.archive_server.specs.Serving.{IsOnward, Task, HasServed, Tasks, Results, HaveServed, WasWritten}

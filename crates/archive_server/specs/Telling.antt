@@ -1,5 +1,5 @@
 -- What pages are told from: a look of a pass, and what the server knows of itself.
-use Rattle.std.specs.Prelude.{◌≡◌, ◌⊎◌, ℕ, List, [], Option, Some, None, is_none}
+use Rattle.std.specs.Prelude.{◌≡◌, ◌⊎◌, ℕ, List, [], Option, is_none}
 use Rattle.http_server.specs.Exchange.{Calls}
 use Rattle.http_server.specs.History.{History}
 use Rattle.site_state.specs.declared.counts.Counts.{Counts}

@@ -1,26 +1,23 @@
 -- What a text spells is what the reader makes of it.
-use Rattle.std.proofs.Common.{◌≡◌, ℕ, zero, suc, ◌+◌, ◌-◌, ◌<◌, ◌≤◌, Bool, true, false, cond, List, [], ◌∷◌, ◌++◌}
+use Rattle.std.proofs.Common.{◌≡◌, ℕ, zero, suc, ◌<◌, ◌≤◌, Bool, true, false, cond, List, [], ◌∷◌, ◌++◌}
 use Rattle.std.proofs.Common.{length, take, drop, Option, Some, None, Result, Ok, Err, refl, sym, ap, subst, ◌∙◌, arith}
 use Rattle.std.proofs.Common.{length-append}
-use Rattle.std.specs.Prelude.{◌==◌, ◌&&◌}
+use Rattle.std.specs.Prelude.{◌==◌}
 use Rattle.std.specs.Int.{w32, to_le_bytes}
 use Rattle.std.proofs.lemmas.List.{length-drop}
 use Rattle.std.proofs.lemmas.Option.{same_Some as some_is}
 use Rattle.data_set.specs.declared.fault.SetFault.{SetFault}
 use Rattle.data_set.specs.declared.syntax.Syntax.{Syntax}
-use Rattle.data_set.specs.declared.header.Front.{Front}
 use Rattle.data_set.specs.declared.header.Closing.{Closing}
 use Rattle.data_set.specs.declared.header.Closing.TheVariants.{Filled, End}
-use Rattle.octets.specs.Gives.{◌>>=◌}
 use Rattle.data_set.specs.Tree.{Tree, leaf, node, rows_of}
 use Rattle.dictionary.specs.Tags.{tag_text}
 use Rattle.data_set.specs.Tags.{item, item_end, sequence_end}
 use Rattle.data_set.specs.Vr.{undefined_length}
-use Rattle.data_set.specs.Header.{front_at, item_at, eight_at, behind_end, end_at}
-use Rattle.data_set.specs.Spelling.{Begins, BeginsItem}
+use Rattle.data_set.specs.Header.{eight_at, end_at}
 use Rattle.data_set.specs.Texts.{Given, Takes, All_of, Body, HasContent, ElementOver, IsItem, Spells, closing_of}
 use Rattle.data_set.specs.Texts.{place_of, behind, after_tag, no_order, deepest}
-use Rattle.data_set.specs.Reading.{One, more_of, fewer_than, all_in, in_body, content_by, element_by, item_by}
+use Rattle.data_set.specs.Reading.{One, fewer_than, all_in, in_body, content_by, element_by, item_by}
 use Rattle.data_set.specs.Reading.{elements_of, elements_in}
 use Rattle.data_set.proofs.HeaderLaws.{front_again, item_again}
 

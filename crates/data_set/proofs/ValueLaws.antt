@@ -9,7 +9,7 @@ use Rattle.std.proofs.lemmas.List.{reverse-append, take-append-le}
 use Rattle.std.proofs.lemmas.List.Folds.{find-append}
 use lib.Chars.{codes}
 use Rattle.data_set.specs.declared.syntax.Syntax.{Syntax}
-use Rattle.data_set.specs.Tree.{Tree, Trees, leaf, node, tag_of, trees_of, list_trees, list_rows}
+use Rattle.data_set.specs.Tree.{Tree, leaf, node, tag_of, trees_of, list_trees, list_rows}
 use Rattle.data_set.specs.Tags.{is_group_length}
 use Rattle.data_set.specs.Vr.{is_name}
 use Rattle.octets.specs.Padding.{is_padding, is_space, without_padding, trimmed}

@@ -1,7 +1,6 @@
 -- The reader as a function of the text: what a text spells, computed (PS3.5, 7.1 and 7.5).
-use Rattle.std.specs.Prelude.{ℕ, zero, suc, List, [], ◌∷◌, length, take, drop, Option, Some, None, Result, Ok, Err}
+use Rattle.std.specs.Prelude.{ℕ, zero, suc, List, [], ◌∷◌, length, take, drop, Option, Some, None, Ok, Err}
 use Rattle.octets.specs.Gives.{◌>>=◌}
-use Rattle.data_set.specs.declared.fault.SetFault.{SetFault}
 use Rattle.data_set.specs.declared.fault.SetFault.TheVariants.{Truncated, Depth}
 use Rattle.data_set.specs.declared.syntax.Syntax.{Syntax}
 use Rattle.data_set.specs.declared.header.Closing.{Closing}

@@ -1,5 +1,5 @@
 -- The values of elements, without their padding (PS3.5, 6.2).
-use Rattle.std.specs.Prelude.{ℕ, ◌-◌, List, [], ◌∷◌, length, take, drop, Option, Some, None, Bool, ◌==◌, ◌||◌, ◌%◌}
+use Rattle.std.specs.Prelude.{ℕ, List, [], ◌∷◌, length, Option, Some, None, ◌==◌, ◌%◌}
 use Rattle.std.specs.Prelude.{◌++◌, if◌then◌else◌, find}
 use lib.Chars.{codes}
 use Rattle.octets.specs.Padding.{trimmed}

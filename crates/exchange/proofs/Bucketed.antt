@@ -1,7 +1,7 @@
 -- What a round by buckets gives.
 use Rattle.std.proofs.Common.{inl, inr, ◌≡◌, ℕ, zero, suc, ◌+◌, ◌<◌, ◌≤◌, List, [], ◌∷◌, Bool, true, false, cond}
 use Rattle.std.proofs.Common.{Option, Some, get_or, refl, sym, ap, subst, ◌∙◌, arith, eqb}
-use Rattle.std.specs.Prelude.{◌==◌, map, filter, not, slice_index}
+use Rattle.std.specs.Prelude.{◌==◌, map, filter, not}
 use Rattle.std.specs.List.{range_with_len}
 use Rattle.std.specs.Map.{keys_of}
 use Rattle.std.specs.BTreeMap.{is_at}

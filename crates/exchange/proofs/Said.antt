@@ -19,7 +19,6 @@ use Rattle.octets.specs.Texts.{text_cmp}
 use Rattle.archive_model.proofs.MemberLaws.{filter_has}
 use Rattle.operation.proofs.DigestLaws.{digest_long}
 use Rattle.operation.specs.declared.op.Op.{Op}
-use Rattle.operation.specs.Spelling.{digest_of}
 use Rattle.site_state.specs.Site.{Map, IsSite, digest_cmp}
 use Rattle.site_state.proofs.Tops.{ascend}
 use Rattle.exchange_frames.specs.declared.frame.Frame.TheVariants.{Have, Want, Buckets, Differ}

@@ -1,7 +1,7 @@
 -- The members of a list that backslashes part, one after the other.
-use Rattle.std.proofs.Common.{◌≡◌, ◌<◌, ◌≤◌, ◌+◌, ℕ, suc, List, [], ◌∷◌, length, take, drop, Bool, true, false, cond}
-use Rattle.std.proofs.Common.{nat_lt, Option, Some, None, ◌||◌, ◌&&◌, refl, sym, ap, ◌∙◌, arith}
-use Rattle.std.specs.List.{position, position_or_len, slice_split, onto_first, list_any, list_all}
+use Rattle.std.proofs.Common.{◌≡◌, ◌<◌, ◌≤◌, ◌+◌, ℕ, List, [], ◌∷◌, length, take, drop, Bool, true, false, cond}
+use Rattle.std.proofs.Common.{nat_lt, Some, None, ◌||◌, ◌&&◌, refl, sym, ap, ◌∙◌, arith}
+use Rattle.std.specs.List.{position, position_or_len, onto_first, list_any, list_all}
 use Rattle.std.proofs.lemmas.Bool.{ltb-true, ltb-false, or_left as or_yes, and_left as and_no}
 use Rattle.std.proofs.lemmas.List.Splits.{slice_split_first}
 use mathlib.Core.Bool.{or-false as or_none, and-true as and_none}

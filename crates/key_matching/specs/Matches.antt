@@ -1,5 +1,5 @@
 -- Which values a key matches, on bytes (PS3.4, C.2.2.2).
-use Rattle.std.specs.Prelude.{ℕ, List, [], ◌∷◌, length, map, Bool, true, false, ◌||◌, ◌==◌, nat_eq}
+use Rattle.std.specs.Prelude.{ℕ, List, [], ◌∷◌, length, Bool, true, false, ◌||◌, ◌==◌, nat_eq}
 use Rattle.std.specs.List.{list_any, list_all, slice_split}
 use Rattle.std.specs.Cmp.Lexicographic.{pointwise}
 use Rattle.octets.specs.Padding.{trimmed}

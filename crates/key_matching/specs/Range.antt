@@ -1,6 +1,6 @@
 -- Dates and times, and ranges of them, on bytes (PS3.4, C.2.2.2.5; PS3.5, 6.2).
-use Rattle.std.specs.Prelude.{ℕ, ◌+◌, List, [], ◌∷◌, ◌++◌, length, take, drop, slice_index, position, Option, Some}
-use Rattle.std.specs.Prelude.{None, Bool, true, false, ◌&&◌, ◌||◌, not, ◌==◌, nat_le, codes}
+use Rattle.std.specs.Prelude.{ℕ, ◌+◌, List, ◌++◌, length, take, drop, slice_index, position, Option, Some}
+use Rattle.std.specs.Prelude.{None, Bool, ◌&&◌, ◌||◌, not, ◌==◌, nat_le, codes}
 use Rattle.std.specs.List.{list_all}
 use Rattle.std.specs.Ordering.{nat_cmp, is_le}
 use Rattle.std.specs.Cmp.Lexicographic.{slice_cmp}

@@ -3,7 +3,7 @@ use Rattle.std.proofs.Common.{◌≡◌, ◌+◌, ◌<◌, inl, inr, ℕ, List, 
 use Rattle.std.proofs.lemmas.List.{append-nil, map-append}
 use Rattle.std.proofs.lemmas.List.Elements.{filter_more}
 use Rattle.sqlite_disk.specs.declared.Disk.{Ghosts}
-use Rattle.head_log.specs.Groups.{IsReady, joined}
+use Rattle.head_log.specs.Groups.{IsReady}
 use Rattle.head_log.specs.Groups.{LeavesEither as LeavesGroups, StandsFor as HasGroups}
 use Rattle.head_log.proofs.Laying.{joined_more}
 use Rattle.operation.specs.Parts.{ContentParts}

@@ -1,6 +1,6 @@
 -- What a data set says as a rejection note (PS3.3, C.17.6.2; PS3.16, CID 7010; IHE RAD-66).
 use Rattle.std.specs.Prelude.{ℕ, List, [], ◌∷◌, Bool, true, false, not, ◌||◌, Option, Some, None, Result, Ok, Err}
-use Rattle.std.specs.Prelude.{codes, unwrap_or, if◌then◌else◌}
+use Rattle.std.specs.Prelude.{unwrap_or, if◌then◌else◌}
 use Rattle.std.specs.List.{filter_map, flat_map, list_all}
 use Rattle.dictionary.specs.declared.elements.TheConstants.{CODE_VALUE, CODING_SCHEME_DESIGNATOR}
 use Rattle.dictionary.specs.declared.elements.TheConstants.{CONCEPT_NAME_CODE_SEQUENCE}

@@ -1,5 +1,5 @@
 -- What a server knows of itself, as rows of its site's page.
-use Rattle.std.specs.Prelude.{ℕ, ◌-◌, List, [], ◌∷◌, ◌++◌, Option, Some, None, codes, cond, map}
+use Rattle.std.specs.Prelude.{ℕ, ◌-◌, List, ◌∷◌, ◌++◌, Option, Some, None, codes, cond, map}
 use Rattle.std.specs.Fmt.{decimal}
 use Rattle.octets.specs.Texts.{same}
 use Rattle.archive_page.specs.declared.fact.Fact.{Fact}

@@ -10,7 +10,7 @@ use Rattle.operation.specs.Spelling.{digest_of}
 use Rattle.archive_model.specs.Contents.{content_in}
 use Rattle.archive_model.proofs.MemberLaws.{has_filter_map}
 use Rattle.archive_model.proofs.ModelLaws.{pick_is_content, pick_is_least, content_has}
-use Rattle.site_state.specs.Site.{Map, digest_cmp, IsSite, held_at, ops_of}
+use Rattle.site_state.specs.Site.{digest_cmp, held_at, ops_of}
 use Rattle.site_state.specs.Laws.{after_taking, TakenIsSite, OperationsAscend, PickHasLeastDigest}
 use Rattle.site_state.proofs.Maps.{held}
 use Rattle.site_state.proofs.Unions.{held_entries, first_held, rest_held}

@@ -1,5 +1,5 @@
 -- The notes under each instance of a study tell of it what all notes do.
-use Rattle.std.proofs.Common.{◌≡◌, ℕ, List, [], ◌∷◌, ◌++◌, refl, ap, map}
+use Rattle.std.proofs.Common.{◌≡◌, ℕ, List, [], ◌∷◌, ◌++◌, ap, map}
 use Rattle.std.specs.List.{flat_map}
 use Rattle.operation.specs.Parts.{ContentParts}
 use Rattle.archive_model.specs.Contents.{series_of}

@@ -8,7 +8,6 @@ use Rattle.operation.specs.declared.stamp.Stamp.{Stamp}
 use Rattle.operation.specs.declared.taken.Taken.{Taken}
 use Rattle.operation.specs.declared.target.Target.{Target}
 use Rattle.operation.specs.Corrections.{is_correction}
-use Rattle.exchange.specs.declared.version.Version.{Version}
 use Rattle.site_state.specs.Site.{Map, ops_of, top_counter_of}
 use Rattle.site_world.specs.declared.fault.WorldFault.{WorldFault}
 use Rattle.site_world.specs.declared.fault.WorldFault.TheVariants.{NoSite, BadCorrection, StampsSpent}

@@ -19,7 +19,7 @@ use Rattle.join_laws.specs.Proved.Exact.{exact_unsigned}
 use Rattle.join_laws.specs.Proved.Maps.{map_laws, map_summary_laws}
 use Rattle.join_laws.specs.Proved.Orders.{least_laws, least_summary_laws, greatest_laws, greatest_summary_laws}
 use Rattle.join_laws.specs.Proved.Sets.{set_laws, set_summary_laws, sorted-union}
-use Rattle.study_index.specs.Live.{Text, Pick, pick_cmp}
+use Rattle.study_index.specs.Live.{pick_cmp}
 use Rattle.study_index.specs.Index.{Copy, Naming, FixKey, Fix, a_copy}
 use Rattle.study_index.specs.Index.{copy_cmp, naming_cmp, fix_key_cmp, fix_cmp, fixes_joined, IsIndex}
 use Rattle.study_index.specs.Index.{index_joined, index_of, nothing, namings, titles_of, pick_of, fix_key, fix_of}

@@ -1,13 +1,8 @@
-use Rattle.std.proofs.Common.{◌≡◌, List, map, ap, ◌∙◌, subst, Bor}
-use Rattle.octets.specs.Members.{Has}
+use Rattle.std.proofs.Common.{List, map, ap, ◌∙◌, Bor}
 use Rattle.records.specs.declared.recorded_content.RecordedContent.{RecordedContent}
 use Rattle.operation.specs.Parts.{ContentParts}
 use Rattle.archive_model.specs.Listed.{listed, list_of}
 use Rattle.archive_model.specs.Preparing.{prepared_for, prepared_of}
-use Rattle.archive_model.specs.Selection.{is_selected, selected}
-use Rattle.archive_model.specs.Shown.{shown}
-use Rattle.archive_model.proofs.MemberLaws.{filter_has}
-use Rattle.archive_model.proofs.ModelLaws.{shown_are_picks}
 use Rattle.site_state.specs.Site.{ops_of}
 use Rattle.archive_query.proofs.listing.list.Goals as goal
 

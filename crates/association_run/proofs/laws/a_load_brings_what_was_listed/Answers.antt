@@ -1,5 +1,4 @@
 use Rattle.std.proofs.Common.{◌≡◌, ap}
-use Rattle.operation.specs.declared.op.Op.{Op}
 use Rattle.operation.specs.declared.op.Op.TheVariants.{Content as a_content}
 use Rattle.operation.specs.RecordParts.{ContentRecordParts}
 use Rattle.association_run.proofs.laws.a_load_brings_what_was_listed.Goals as goal

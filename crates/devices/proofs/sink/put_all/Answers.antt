@@ -1,4 +1,4 @@
-use Rattle.std.proofs.Common.{◌≡◌, ◌+◌, ◌-◌, ◌≤◌, take, drop, length, arith, length-drop, sym, ◌∙◌}
+use Rattle.std.proofs.Common.{◌≡◌, ◌-◌, take, drop, length, arith, length-drop, ◌∙◌}
 use Rattle.std.proofs.Math.Seq.{take-add}
 use Rattle.std.proofs.lemmas.List.{length-take, take_all}
 use Rattle.devices.proofs.Fronts.{further}

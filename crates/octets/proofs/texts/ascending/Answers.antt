@@ -1,6 +1,5 @@
-use Rattle.std.proofs.Common.{◌≡◌, ℕ, List, ◌∷◌, [], sym, ◌∙◌, subst}
+use Rattle.std.proofs.Common.{ℕ, List, ◌∙◌}
 use Rattle.std.specs.Prelude.{Contains, nat_eq}
-use Rattle.std.specs.Ordering.{nat_cmp}
 use Rattle.std.specs.List.{dedup}
 use Rattle.std.specs.Cmp.Lexicographic.{texts_ties, pointwise, nat_list_eq_equiv}
 use Rattle.std.proofs.lemmas.Cmp.{nat_list_cmp_total}

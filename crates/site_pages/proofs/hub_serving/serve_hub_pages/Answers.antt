@@ -1,4 +1,4 @@
-use Rattle.std.proofs.Common.{◌≡◌, [], subst}
+use Rattle.std.proofs.Common.{[], subst}
 use Rattle.http_server.specs.Exchange.{Calls}
 use Rattle.site_hub.specs.Hub.{HasLooked}
 use Rattle.site_pages.specs.HubPages.{HubSource, says_from, AnswersFrom}

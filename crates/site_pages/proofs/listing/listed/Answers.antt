@@ -1,4 +1,4 @@
-use Rattle.std.proofs.Common.{◌≡◌, ap, ◌∙◌}
+use Rattle.std.proofs.Common.{ap, ◌∙◌}
 use Rattle.archive_page.specs.Answers.{listing_answer}
 use Rattle.site_tables.proofs.UnderLaws.{if_ok}
 use Rattle.site_pages.proofs.ListingLaws.{listed_is}

@@ -1,4 +1,4 @@
-use Rattle.std.proofs.Common.{◌≡◌, List, Bor, map, ap, subst, ◌∙◌}
+use Rattle.std.proofs.Common.{List, Bor, map, ap, subst, ◌∙◌}
 use Rattle.std.specs.List.{flat_map}
 use Rattle.records.specs.declared.recorded_content.RecordedContent.{RecordedContent}
 use Rattle.operation.specs.Parts.{ContentParts}

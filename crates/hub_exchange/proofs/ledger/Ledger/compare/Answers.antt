@@ -1,4 +1,4 @@
-use Rattle.std.proofs.Common.{◌≡◌, ℕ, List, ◌++◌, sym, subst, ◌∙◌, ap}
+use Rattle.std.proofs.Common.{ℕ, List, sym, subst, ◌∙◌, ap}
 use mathlib.Core.List.{IsPrefix}
 use Rattle.hub_exchange.specs.Lines.{Written, digests_of}
 use Rattle.hub_exchange.proofs.Lines.{digests_begin, all_seen, prefix_trans}

@@ -1,5 +1,5 @@
-use Rattle.std.proofs.Common.{◌≡◌, ℕ, List, [], ◌∷◌, ◌++◌, refl, sym, subst, ◌∙◌, ap}
-use Rattle.hub_exchange.specs.Lines.{Written, digests_of, pen_of}
+use Rattle.std.proofs.Common.{[], ◌∷◌, ◌++◌, refl, sym, ◌∙◌, ap}
+use Rattle.hub_exchange.specs.Lines.{Written, digests_of}
 use Rattle.hub_exchange.specs.Rules.{signed}
 use Rattle.hub_exchange.proofs.Lines.{digest_more, pen_more}
 use Rattle.hub_exchange.proofs.Steps.{writes_moves}

@@ -1,5 +1,5 @@
-use Rattle.std.proofs.Common.{◌≡◌, sym, subst}
-use Rattle.study_index.specs.Definition.{IsIndexOf, index_value}
+use Rattle.std.proofs.Common.{sym, subst}
+use Rattle.study_index.specs.Definition.{IsIndexOf}
 use Rattle.study_index.proofs.Definitions.{is_index}
 use Rattle.site_state.specs.Site.{HasIndex, ops_of, of_entries}
 use Rattle.site_state.proofs.Indexed.{ops_ascend}
