@@ -18,7 +18,8 @@ use Rattle.record_log.specs.Entries.{has_no_note, without_notes}
 use Rattle.record_log.specs.Log.{Tells}
 use Rattle.op_log.specs.declared.kept.Kept.{Kept}
 use Rattle.op_log.specs.declared.kept.Kept.TheVariants.{New, Known}
-use Rattle.shelved_site.specs.Told.{AreInOrder, AreOthers, HaveOneDigest, IsBehind, IsNamedBy, new_among, told_of}
+use Rattle.shelved_site.specs.Told.{AreInOrder, AreOthers, HaveOneDigest, IsBehind, IsNamedBy, IsOther}
+use Rattle.shelved_site.specs.Told.{new_among, told_of}
 
 -- ---- contents of operations
 
@@ -105,7 +106,7 @@ module _ (told : List ContentParts) (ops : List Op) (rest : List ContentParts) (
 
   -- the next operation is another content
   pub left_other : (op : Op) (d : ContentParts) → i < length ops → op ≡ get_or ops i op → op ≡ a_content d
-      → ((behind : List ContentParts) → ¬ IsBehind rest d behind) → IsLeft told ops rest i → IsLeft told ops rest (i + 1)
+      → IsOther rest d → IsLeft told ops rest i → IsLeft told ops rest (i + 1)
   left_other op d low at is other left =
       on op rest low at
       (subst (λ (o : Op). AreInOrder rest (o ∷ drop (i + 1) ops) ↔ AreInOrder rest (drop (i + 1) ops)) (sym is)
@@ -259,7 +260,7 @@ module _ {D : Type 0} (g : Ghosts D) (told : List ContentParts) (ops : List Op) 
 
     -- another is added
     pub other_added : (mid new : RecordLog D) (d : ContentParts) → op ≡ a_content d
-        → ((behind : List ContentParts) → ¬ IsBehind rest d behind)
+        → IsOther rest d
         → ((ds : List ContentParts) → Tells g mid ds → Tells g new (ds ++ without_notes (d ∷ [])))
         → AreAdded mid rest i → AreAdded new rest (i + 1)
     other_added mid new d is other step was = record {
@@ -270,7 +271,7 @@ module _ {D : Type 0} (g : Ghosts D) (told : List ContentParts) (ops : List Op) 
           (step (cs ++ without_notes was.done) was.tells);
       others = λ later are. subst (AreOthers told ops) (sym (append_assoc was.done (d ∷ []) later))
           (was.others (d ∷ later) (onward (d ∷ later)
-          (subst (λ (o : Op). AreOthers rest (o ∷ drop (i + 1) ops) (d ∷ later)) (sym is) (inr (later, refl, are)))));
+          (subst (λ (o : Op). AreOthers rest (o ∷ drop (i + 1) ops) (d ∷ later)) (sym is) (inr (later, other, refl, are)))));
       left = left_other told ops rest i op d low at is other was.left;
     }
 

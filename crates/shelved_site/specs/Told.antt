@@ -45,13 +45,17 @@ AreInOrder [] ops = Unit {0}
 AreInOrder (c ∷ cs) [] = ⊥
 AreInOrder (c ∷ cs) (op ∷ ops) = (IsNamedBy op c × AreInOrder cs ops) ⊎ AreInOrder (c ∷ cs) ops
 
--- The contents of some operations are those that are told, each by its digest, and these others, both in the order of
--- the operations.
+-- this content is not the one that is told next
+abbrev pub IsOther : List ContentParts → ContentParts → Type 0
+IsOther told c = (rest : List ContentParts) → ¬ IsBehind told c rest
+
+-- The contents of some operations are those that are told, each by its digest and the first that has it, and these
+-- others, both in the order of the operations.
 abbrev pub AreOthers : List ContentParts → List Op → List ContentParts → Type 0
 AreOthers told [] others = (told ≡ []) × (others ≡ [])
 AreOthers told (a_content c ∷ ops) others =
     ((rest : List ContentParts) × IsBehind told c rest × AreOthers rest ops others)
-    ⊎ ((behind : List ContentParts) × (others ≡ c ∷ behind) × AreOthers told ops behind)
+    ⊎ ((behind : List ContentParts) × IsOther told c × (others ≡ c ∷ behind) × AreOthers told ops behind)
 AreOthers told (a_correction k ∷ ops) others = AreOthers told ops others
 
 -- a file of records is given up: nothing is added to it any more

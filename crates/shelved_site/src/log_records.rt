@@ -13,7 +13,8 @@ ghost use Rattle.shelved_site.specs.Keeping.{IsUp, Holds, log_of};
 ghost use Rattle.shelved_site.specs.Refusing.{LogRefusesAll};
 ghost use Rattle.shelved_site.specs.Sites.{AreRecords, IsSiteOf, IsOfStore};
 ghost use Rattle.shelved_site.specs.Stores.{IsSame, listed_in};
-ghost use Rattle.shelved_site.specs.Told.{AreInOrder, AreOthers, IsBehind, IsGivenUp, IsToldSiteOf};
+ghost use Rattle.shelved_site.specs.Told.{AreInOrder, AreOthers, IsBehind, IsGivenUp};
+ghost use Rattle.shelved_site.specs.Told.{IsOther, IsToldSiteOf};
 
 use crate::fault::ShelvedFault;
 use crate::keeping::KeptLog;
@@ -35,8 +36,7 @@ fn behind_told<'a>(
     content: &RecordedContent,
 ) -> Option<&'a [RecordedContent]>
     ensures some { IfSome result (λ rest. IsBehind told.now content.now rest.now) }
-    ensures none { result ≡ None → (rest : List ContentParts)
-        → ¬ IsBehind told.now content.now rest }
+    ensures none { result ≡ None → IsOther told.now content.now }
 {
     match told {
         [first, rest @ ..] => {
