@@ -1,6 +1,5 @@
 -- The history of a hub: entries, each an operation that was taken for a pass.
-use Rattle.std.specs.Prelude.{ℕ, ◌≡◌, ◌<◌, List, [], ◌∷◌, ◌++◌, length, map, filter, ⊤}
-use mathlib.Core.List.{IsPrefix}
+use Rattle.std.specs.Prelude.{ℕ, ◌≡◌, List, [], ◌∷◌, ◌++◌, map, filter, ⊤}
 use Rattle.operation.specs.declared.op.Op.{Op}
 use Rattle.operation.specs.Spelling.{digest_of}
 use Rattle.study_index.specs.Definition.{IsLawful, AreLawful}
@@ -42,10 +41,6 @@ entry_of pass op = record { pass = pass; op = op }
 -- a history by its digests
 abbrev pub logged_of : List Entry → List Logged
 logged_of log = map (λ (e : Entry). record { pass = e.pass; digest = digest_of e.op }) log
-
--- ys begins with xs, and goes on
-abbrev pub IsLonger : List Entry → List Entry → Type 0
-IsLonger xs ys = IsPrefix xs ys × (length xs < length ys)
 
 -- a history ends with an entry
 abbrev pub EndsWith : List Entry → Entry → Type 0

@@ -18,10 +18,6 @@ pub trait Shows<H: HubName>: Absorb<Item<H>, State = [Entry; 0]> + Drop {
     fn shown(&self) -> &Site
         ensures { result.now ≡ set_of H.opening (Self.Absorb.state self.now) };
 
-    /// The same, by itself.
-    fn into_shown(self) -> Site
-        ensures { result ≡ set_of H.opening (Self.Absorb.state self) };
-
     /// A copy that has absorbed an item stands for the history that the item ends.
     ghost absorbs: { (log item : List Entry) → Self.Absorb.applied log item ≡ item };
 }
@@ -33,10 +29,6 @@ impl<H: HubName> Shows<H> for Snapshot<H> {
 
     fn shown(&self) -> &Site {
         self.site()
-    }
-
-    fn into_shown(self) -> Site {
-        self.into_site()
     }
 }
 
@@ -66,15 +58,6 @@ impl<H: HubName, T: Shows<H>, R: Wait + Drop> Pair<H, T, R> {
         self.handle.published().shown()
     }
 
-    /// The same, by itself, once no reader is left.
-    pub fn into_site(self) -> Site
-        ensures { result ≡ set_of H.opening self.published }
-    {
-        let Pair { handle } = self;
-        let shown = Box::into_inner(handle.take());
-        shown.into_shown()
-    }
-
     /// The item comes back where there is no memory.
     pub fn append(&mut self, item: Item<H>) -> Result<(), Item<H>>
         ensures published { self.new.published ≡ self.old.published }
@@ -84,12 +67,13 @@ impl<H: HubName, T: Shows<H>, R: Wait + Drop> Pair<H, T, R> {
         self.handle.append(item)
     }
 
-    /// False where memory ran out.
+    /// Shows readers what they do not see yet, if there is any. It waits for those alone that read
+    /// since before it last showed some. False where memory ran out.
     pub fn publish(&mut self) -> bool
         ensures reached { self.new.reached ≡ self.old.reached }
         ensures shown { result ≡ true → self.new.published ≡ self.old.reached }
         ensures kept { result ≡ false → self.new.published ≡ self.old.published }
     {
-        self.handle.publish().is_ok()
+        self.handle.flush().is_ok()
     }
 }
