@@ -15,12 +15,10 @@ use crate::listening::{Listening, listen_first, listen_to, say_where};
 use crate::output::CommandFault;
 use crate::refused::{Refused, about};
 use anyhow::Result as Printed;
-use archive_model::View;
 use archive_server::{Entrance, Manner, Peer, serve_on};
 use association_run::OpenGate;
 use command_words::Serving;
 use log::Log;
-use octets::{ListOf, Octets};
 use record_log::Told;
 use records::RecordedContent;
 use shelved_site::{KeptLog, Store};
@@ -35,34 +33,6 @@ use std::sync::atomic::AtomicBool;
 use std::sync::{Arc, Mutex, Wait};
 use std::thread::Threads;
 use std::time::{Clock, Duration};
-use ul_state::{Title, Titles};
-
-/// A called title, which those may call that are named for it.
-fn title(
-    alloc: Global,
-    text: &[u8],
-    value: View,
-    serving: &Serving<'_>,
-) -> Result<Title<View>, AllocError> {
-    let mut named = ListOf::new(alloc);
-    for caller in serving.callers_of(value) {
-        named.push(Octets::from_slice(alloc, caller.as_bytes())?)?;
-    }
-    Ok(Title {
-        title: Octets::from_slice(alloc, text)?,
-        value,
-        callers: named,
-    })
-}
-
-/// The called titles, a view for each.
-fn titles(alloc: Global, serving: &Serving<'_>) -> Result<Titles<View>, AllocError> {
-    let mut list = ListOf::new(alloc);
-    list.push(title(alloc, b"ARCHIVE", View::Archive, serving)?)?;
-    list.push(title(alloc, b"QUALITY", View::Quality, serving)?)?;
-    list.push(title(alloc, b"AUDIT", View::Audit, serving)?)?;
-    Ok(Titles { list })
-}
 
 /// The peers, each called after so many seconds.
 fn peers_of<'a>(alloc: Global, serving: &'a Serving<'_>) -> Result<Vec<Peer<'a>>, AllocError> {
@@ -122,7 +92,7 @@ fn serve_hub<
         → IsOpenedOn (S.lists store.old) _told.now H.opening }
 {
     let alloc = host.alloc();
-    let titles = titles(alloc, serving)?;
+    let titles = serving.titles(alloc)?;
     let entrance = Entrance {
         listener: &listening.associations,
         allowed: serving.allowed.as_slice(),

@@ -30,12 +30,13 @@ impl NetFault {
     }
 }
 
-/// Why an association, an exchange or an accept ended early.
+/// Why an association, an exchange or an accept ended early, or a thread was refused.
 #[derive(Clone, Copy, Debug, PartialEq, Eq)]
 pub enum ServeFault {
     /// An association ended with this fault, or a worker's thread was refused: then of memory.
     Run(RunFault),
-    /// An exchange ended with this fault, or the thread of exchanges was refused: then of memory.
+    /// An exchange ended with this fault, or a thread of exchanges, for a peer, of pages or of the
+    /// desk was refused: then of memory.
     Exchange(ExchangeFault),
     /// The network refused.
     Net(NetFault),

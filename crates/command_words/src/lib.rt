@@ -7,6 +7,7 @@ ghost use Rattle.command_words.specs.declared.TheConstants.{LOOPBACK};
 
 mod networks;
 mod parts;
+mod titles;
 
 use archive_model::View;
 use exchange::Role;

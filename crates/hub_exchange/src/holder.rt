@@ -2,6 +2,7 @@
 
 ghost use Rattle.std.specs.Prelude.{◌≡◌, IfErr, OnErr, MatchResult};
 ghost use Rattle.operation.specs.Spelling.{digest_of};
+ghost use Rattle.records.specs.StandIn.{op_in};
 ghost use Rattle.site_hub.specs.History.{set_of};
 ghost use Rattle.site_hub.specs.Hub.{Seat, HasLooked};
 ghost use Rattle.exchange.specs.Held.{Looks, TakesIn};
@@ -16,6 +17,7 @@ use association_worker::AtEntry;
 use exchange::{Digests, Holder, HolderFault, Version};
 use octets::ListOf;
 use operation::{Digest, Digested, Op, Taken};
+use records::RecordedOp;
 use site_hub::{HubFault, HubName, Keeper, Pass, Question, Shows, Told, store};
 use std::alloc::Global;
 use std::marker::{Model, PhantomData};
@@ -76,30 +78,28 @@ fn reply<H: HubName>(told: Result<Told<H>, HubFault>) -> Result<Taken, HolderFau
     }
 }
 
-/// Lets the hub take the record of what the shelf keeps, which publishes it.
+/// Lets the hub take the record of an operation that the shelf keeps, which publishes it.
 fn publish<H: HubName, T: Shows<H>, R: Wait + Drop, S: Wait, N: LedgerName>(
     rt: &S,
     keeper: &Mutex<Keeper<H, T, R>>,
     pass: &mut Pass<H>,
-    op: &Digested,
+    _op: &Digested,
+    recorded: RecordedOp,
     shelved: &Shelved<N>,
 ) -> Result<Taken, HolderFault>
-    requires { shelved.now.digest ≡ digest_of op.now }
-    ensures takes { TakesIn (λ (s : Seat). set_of H.opening s.seen) (λ _. ⊥) pass.old op.now
+    requires stands { recorded ≡ op_in _op.now }
+    requires same { digest_of (op_in _op.now) ≡ digest_of _op.now }
+    requires shelved { shelved.now.digest ≡ digest_of _op.now }
+    ensures takes { TakesIn (λ (s : Seat). set_of H.opening s.seen) (λ _. ⊥) pass.old _op.now
         result pass.new }
     ensures refused { OnErr result (pass.new.seen ≡ pass.old.seen) }
-    ensures why { IfErr result (RefusesToPublish H.opening pass.old pass.new op.now) }
+    ensures why { IfErr result (RefusesToPublish H.opening pass.old pass.new _op.now) }
     ensures onward { IsOnward (WasWritten shelved.now.extract) pass.old pass.new }
 {
     let _ = &shelved.digest;
-    match pass.record(op) {
-        Ok(recorded) => {
-            let told = store(rt, keeper, pass, recorded);
-            pass.see_history();
-            reply(told)
-        }
-        Err(refused) => Err(of_hub(refused)),
-    }
+    let told = store(rt, keeper, pass, recorded);
+    pass.see_history();
+    reply(told)
 }
 
 /// What a pass answers to a question, of the set that it then has seen.
@@ -244,10 +244,15 @@ impl<
         ensures refused { OnErr result (self.new.seen ≡ self.old.seen) }
         ensures why { IfErr result (RefusesAtHub P.refuses H.opening self.old self.new op) }
     {
+        // Where memory is refused for its record, nothing is put.
+        let Ok(recorded) = self.pass.record(&op) else {
+            return Err(HolderFault::Memory);
+        };
         let mut shelf = *self.shelf;
         match shelf.put(&op) {
             Ok(shelved) => {
-                let taken = publish(self.rt, self.keeper, &mut self.pass, &op, &shelved);
+                let (rt, keeper) = (self.rt, self.keeper);
+                let taken = publish(rt, keeper, &mut self.pass, &op, recorded, &shelved);
                 self.extract.learn(&shelved.extract);
                 taken
             }

@@ -52,6 +52,7 @@ pub fn put_shown<K: Keep, N: LedgerName>(
     requires kept { AreKept K.is_up K.holds K.lasts ledger.old shelf.old }
     ensures kept { AreKept K.is_up K.holds K.lasts ledger.new shelf.new }
     ensures own { IfOk result (λ shelved. shelved.digest ≡ digest_of op.now) }
+    ensures why { IfErr result (K.refuses shelf.old shelf.new op.now) }
 {
     shelf.put_digested(op)?;
     Ok(shown(shelf, ledger, op))
@@ -68,6 +69,7 @@ pub fn put_all<K: Keep, N: LedgerName>(
     ensures kept { AreKept K.is_up K.holds K.lasts _ledger.now shelf.new }
     ensures put { OnOk result
         (All (λ op. IsKept K.is_up K.holds K.lasts shelf.new (hash_of op)) ops.now) }
+    ensures why { IfErr result (K.refuses_group shelf.old shelf.new ops.now) }
 {
     shelf.put_many(ops)?;
     Ok(())

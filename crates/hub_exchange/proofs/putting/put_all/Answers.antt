@@ -16,4 +16,5 @@ returns g c = let put = c.put_many.ensures in record {
       c.requires.kept;
   put = kept_by_group g.K.Keep.is_up g.K.Keep.holds g.K.Keep.lasts c.args.shelf.now c.put_many.new.self c.args.ops.now c.in_ok-put_many.field-0.items
       c.in_ok-put_many.ensures.put c.in_ok-put_many.ensures.durable;
+  why = tt;
 }
