@@ -1,15 +1,19 @@
 //! What a server does beside its associations, and how many passes it takes.
 
-ghost use Rattle.std.specs.Prelude.{◌≡◌, ◌≤◌, ◌<◌, ◌+◌};
+ghost use Rattle.std.specs.Prelude.{◌≡◌, ◌≤◌, ◌<◌, ◌+◌, IfSome};
 ghost use Rattle.archive_server.specs.Serving.{others_in, serving_in};
-ghost use Rattle.command_words.specs.Words.{HasPlaces, threads_at as threads_at_one};
+ghost use Rattle.command_words.specs.Words.{HasPlaces, named_or, threads_at as threads_at_one};
+ghost use Rattle.command_words.specs.declared.TheConstants.{LOOPBACK};
 
 use crate::listening::Listening;
 use archive_server::{Correcting, Duties, Entrance, Exchanging, Gauges, Paging, Peer};
 use command_words::Serving;
 
 /// Where exchanges come in, and how many are served.
-fn exchanging_of<'a>(listening: &'a Listening, serving: &'a Serving<'_>) -> Option<Exchanging<'a>> {
+fn exchanging_of<'a>(listening: &'a Listening, serving: &'a Serving<'_>) -> Option<Exchanging<'a>>
+    ensures networks { IfSome result (λ exchanging. exchanging.entrance.allowed.now
+        ≡ serving.now.exchange_allowed.items) }
+{
     match &listening.exchanges {
         None => None,
         Some(listener) => Some(Exchanging {
@@ -28,7 +32,10 @@ fn paging_at<'a>(
     listening: &'a Listening,
     serving: &'a Serving<'_>,
     gauges: &'a Gauges,
-) -> Option<Paging<'a>> {
+) -> Option<Paging<'a>>
+    ensures networks { IfSome result (λ paging. paging.entrance.allowed.now
+        ≡ named_or serving.now.page_allowed.items LOOPBACK.now) }
+{
     match &listening.pages {
         None => None,
         Some(door) => Some(Paging {
@@ -44,7 +51,12 @@ fn paging_at<'a>(
 }
 
 /// Where corrections are asked for, if anywhere, and the number of the site.
-fn correcting_at<'a>(listening: &'a Listening, serving: &'a Serving<'_>) -> Option<Correcting<'a>> {
+fn correcting_at<'a>(listening: &'a Listening, serving: &'a Serving<'_>) -> Option<Correcting<'a>>
+    ensures networks { IfSome result (λ correcting. correcting.entrance.allowed.now
+        ≡ named_or serving.now.desk_allowed.items LOOPBACK.now) }
+    ensures site { IfSome result (λ correcting. IfSome serving.now.desk (λ desk.
+        correcting.site ≡ desk.site)) }
+{
     match (&listening.desk, serving.desk) {
         (Some(door), Some(desk)) => Some(Correcting {
             entrance: Entrance {

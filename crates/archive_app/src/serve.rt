@@ -1,7 +1,7 @@
 //! `archive serve`: serves the operations in a file or a folder to DICOM clients (PS3.8, section
 //! 9.1).
 
-ghost use Rattle.std.specs.Prelude.{◌≡◌, IfOk};
+ghost use Rattle.std.specs.Prelude.{◌≡◌, ◌<◌, IfOk, IsSome};
 ghost use Rattle.command_words.specs.Words.{HasPlaces};
 ghost use Rattle.shelved_site.specs.Told.{IsOpenedOn};
 
@@ -55,8 +55,10 @@ fn each_of(serving: &Serving<'_>) -> u64 {
     }
 }
 
-/// How long a wait for a peer lasts at most.
-pub fn wait_of(seconds: u32) -> Option<Duration> {
+/// How long a wait for a peer lasts at most; with 0 it has no end.
+pub fn wait_of(seconds: u32) -> Option<Duration>
+    ensures ends { 0 < seconds → IsSome result }
+{
     match seconds {
         0 => None,
         _ => Some(Duration::from_secs(seconds as u64)),

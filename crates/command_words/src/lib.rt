@@ -37,8 +37,9 @@ pub struct Correcting<'a> {
     pub change: Change,
 }
 
-/// The addresses by which a machine reaches itself (RFC 6890, section 2.2.2).
-const LOOPBACK: &[Network] = &[Network {
+/// The addresses by which a machine reaches itself (RFC 6890, section 2.2.2): whoever asks for a page
+/// or corrects comes from there, where no network is named.
+pub const LOOPBACK: &[Network] = &[Network {
     address: Ipv4Addr::LOCALHOST,
     bits: 8,
 }];
