@@ -1,7 +1,7 @@
 -- Which addresses a network has, and how it is written.
-use Rattle.std.specs.Prelude.{◌≡◌, ℕ, ◌-◌, ◌/◌, ◌^◌, ◌≤◌, ◌⊎◌, ◌∷◌, ◌==◌, Bool, true, false, List, []}
-use Rattle.std.specs.List.{list_any, before_first, after_first}
-use Rattle.std.specs.Str.Parse.{digits_value, without_leading_plus}
+use Rattle.std.specs.Prelude.{◌≡◌, ℕ, ◌-◌, ◌/◌, ◌^◌, ◌<◌, ◌≤◌, ◌⊎◌, ◌∷◌, ◌==◌, Bool, true, false, List, [], length}
+use Rattle.std.specs.List.{list_any, before_first, after_first, position_or_len}
+use Rattle.std.specs.Str.Parse.{IsNumeral, digits_value, without_leading_plus}
 use Rattle.std.specs.Net.Addr.{ipv4_bits}
 use Rattle.std.specs.Net.Grammar.{IsIpv4Text}
 use Rattle.std.specs.Net.Socket.{v4_ip}
@@ -28,8 +28,16 @@ abbrev pub may_come : List Network → SocketAddr → Bool
 may_come [] peer = true
 may_come (first ∷ others) peer = is_in_one (first ∷ others) peer
 
--- an address alone, or an address and behind a slash how many bits
+-- a text has a slash
+abbrev pub HasSlash : List ℕ → Type 0
+HasSlash text = position_or_len (λ b. b == 47) text < length text
+
+-- a text is the numeral of so many bits, at most 32
+abbrev pub IsBitsText : List ℕ → ℕ → Type 0
+IsBitsText text bits = IsNumeral 10 text × (bits ≡ digits_value 10 text) × (bits ≤ 32)
+
+-- an address alone, of which all bits count; or an address, and behind the first slash how many bits
 abbrev pub IsNetworkText : List ℕ → Network → Type 0
 IsNetworkText text network = (IsIpv4Text text network.address × (network.bits ≡ 32))
-    ⊎ (IsIpv4Text (before_first (λ b. b == 47) text) network.address × (network.bits ≤ 32)
-    × (network.bits ≡ digits_value 10 (without_leading_plus (after_first (λ b. b == 47) text))))
+    ⊎ (HasSlash text × IsIpv4Text (before_first (λ b. b == 47) text) network.address
+    × IsBitsText (without_leading_plus (after_first (λ b. b == 47) text)) network.bits)

@@ -44,7 +44,7 @@ pub fn is_allowed(networks: &[Network], peer: SocketAddr) -> bool
 }
 
 /// A network as it is written: an address, and behind a slash how many bits are in common, 0 to 32;
-/// all are where there is none.
+/// all are where there is no slash.
 pub fn read_network(text: &str) -> Option<Network>
     ensures { IfSome result (λ network. IsNetworkText text.now network) }
 {

@@ -25,6 +25,10 @@ abbrev pub exchange_end : Ended → ExchangeEnd
 exchange_end ended =
     if ended.finished then (if ended.agreed then exchange.Agreed else exchange.NotAgreed) else exchange.Unfinished
 
+-- what came of a call in a second, of a peer that was not reached
+abbrev pub unreached_in : ℕ → Met
+unreached_in at = record { end = exchange.NotReached; given = 0; taken = 0; at = at }
+
 -- what came of an exchange that ended in a second
 abbrev pub met_in : Result Ended ExchangeFault → ℕ → Met
 met_in (Err fault) at = record { end = exchange.Fault; given = 0; taken = 0; at = at }

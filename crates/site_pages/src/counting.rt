@@ -1,7 +1,7 @@
 //! What is counted of an association and of an exchange that have ended.
 
 ghost use Rattle.std.specs.Prelude.{◌≡◌, Ok, false};
-ghost use Rattle.site_pages.specs.Counting.{association_end, exchange_end, met_in};
+ghost use Rattle.site_pages.specs.Counting.{association_end, exchange_end, met_in, unreached_in};
 
 use crate::ends::{AssociationEnd, ExchangeEnd};
 use crate::meters::Met;
@@ -67,7 +67,9 @@ pub fn met_of(ended: Result<Ended, ExchangeFault>, at: u64) -> Met
 }
 
 /// What came of a call of a peer that is not reached.
-pub fn not_reached(at: u64) -> Met {
+pub fn not_reached(at: u64) -> Met
+    ensures { result ≡ unreached_in at }
+{
     Met {
         end: ExchangeEnd::NotReached,
         given: 0,
