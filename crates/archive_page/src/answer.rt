@@ -2,7 +2,7 @@
 
 ghost use Rattle.std.specs.Prelude.{◌≡◌, IfOk, map};
 ghost use Rattle.std.specs.Option.{option_copied};
-ghost use Rattle.archive_page.specs.Answers.{number_of, told_as, page_answer as page_answer_of};
+ghost use Rattle.archive_page.specs.Answers.{told_as, page_answer as page_answer_of};
 ghost use Rattle.archive_page.specs.Answers.{listing_answer as listing_answer_of};
 ghost use Rattle.archive_page.specs.Answers.{study_answer as study_answer_of};
 ghost use Rattle.archive_page.specs.Answers.{health_answer as health_answer_of};
@@ -48,20 +48,6 @@ pub struct Answer {
     pub status: Status,
     pub media: Media,
     pub text: Octets,
-}
-
-impl Status {
-    pub fn number(self) -> u16
-        ensures { result ≡ number_of self }
-    {
-        match self {
-            Status::Ok => 200,
-            Status::BadRequest => 400,
-            Status::NotFound => 404,
-            Status::MethodNotAllowed => 405,
-            Status::ServiceUnavailable => 503,
-        }
-    }
 }
 
 /// An answer that tells this text.

@@ -1,6 +1,6 @@
 //! Text within HTML.
 
-ghost use Rattle.std.specs.Prelude.{◌≡◌, ◌<◌, ◌++◌, IfOk, OnOk};
+ghost use Rattle.std.specs.Prelude.{◌≡◌, ◌<◌, ◌++◌, OnOk};
 ghost use Rattle.std.specs.Char.{digit_char};
 ghost use Rattle.std.specs.List.{flat_map};
 ghost use Rattle.archive_page.specs.Escaping.{is_plain as is_plain_in, escape_byte, escaped};
@@ -53,13 +53,4 @@ pub fn put_escaped(alloc: Global, out: &mut Vec<u8>, value: &[u8]) -> Result<(),
 {
     let text = text_of(alloc, value)?;
     put_bytes(out, text.as_bytes())
-}
-
-/// The text of a value as HTML shows it, within an element or an attribute in quotes.
-pub fn escape(alloc: Global, value: &[u8]) -> Result<Vec<u8>, AllocError>
-    ensures { IfOk result (λ text. text.items ≡ escaped value.now) }
-{
-    let mut out = Vec::new(alloc);
-    put_escaped(alloc, &mut out, value)?;
-    Ok(out)
 }

@@ -36,7 +36,7 @@ pub use answer::{
 };
 pub use asked::{Asked, study_name};
 pub use characters::text_of;
-pub use escaping::{escape, put_escaped};
+pub use escaping::put_escaped;
 pub use escaping_laws::what_is_escaped_makes_no_markup;
 pub use fact::Fact;
 pub use laws::each_path_leads_to_its_page;
