@@ -8,7 +8,7 @@ use crate::associations::words::Words;
 use crate::text::{RowFault, number_of, parted};
 use exchange::Role;
 use pair::{Pair, put_take};
-use runs::{Way, put_meeting, put_run};
+use runs::{Way, put_run};
 use std::alloc::Global;
 
 /// The words that rows gave, two sites, and how the devices of a side are read and written.
@@ -98,12 +98,6 @@ impl Exchanges {
         )
     }
 
-    /// `meet ROLE`: north, in this role, exchanges with south; the sites stay as they were.
-    fn put_meeting(&self, out: &mut String, word: &str) -> Result<(), RowFault> {
-        let role = role_of(word)?;
-        put_meeting(self.alloc, out, &self.words, role, &self.pair, self.way)
-    }
-
     /// Puts what a row of one of these kinds tells.
     pub fn put_row(
         &mut self,
@@ -117,7 +111,6 @@ impl Exchanges {
             "takes" => Some(self.put_take(out, words)),
             "devices" => Some(self.put_devices(out, words)),
             "exchange" => Some(self.put_run(out, words)),
-            "meet" => Some(self.put_meeting(out, words)),
             _ => None,
         }
     }

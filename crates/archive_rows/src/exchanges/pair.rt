@@ -27,21 +27,6 @@ impl Pair {
         }
     }
 
-    pub fn copy(&self, alloc: Global) -> Result<Pair, AllocError> {
-        Ok(Pair {
-            north: copy_of(alloc, &self.north)?,
-            south: copy_of(alloc, &self.south)?,
-        })
-    }
-
-    pub fn told_of_equality(&self) -> &'static str {
-        if self.north.same(&self.south) {
-            "\nthe same is held"
-        } else {
-            "\nunequal sites"
-        }
-    }
-
     /// `north`, or else the south.
     pub fn site(&self, name: &str) -> &WholeSite {
         if name == "north" {
