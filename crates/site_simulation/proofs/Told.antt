@@ -2,14 +2,11 @@
 use Rattle.std.proofs.Common.{◌≡◌, ℕ, ◌+◌, ◌<◌, ◌≤◌, List, [], ◌∷◌, ◌++◌, take, drop, length, Option, Some, None}
 use Rattle.std.proofs.Common.{Result, Ok, Err, Bool, true, false, refl, sym, ap, ◌∙◌, subst, ◌==◌, cond, append_assoc}
 use Rattle.std.proofs.Common.{zero-add, arith}
-use Rattle.std.specs.Prelude.{IfOk, OnErr}
-use Rattle.std.specs.Result.{IsErrOf}
 use Rattle.std.specs.Io.KnownBytes.{Appends, Consumes, IsAtEnd}
 use Rattle.std.proofs.lemmas.List.{take-append-drop, length-append, append-nil}
 use Rattle.std.proofs.Math.Seq.{take-length}
 use Rattle.devices.proofs.Fronts.{further}
 use Rattle.site_simulation.specs.declared.run.SimFault.{SimFault}
-use Rattle.site_simulation.specs.declared.run.SimFault.TheVariants.{Read, Write, LongLine, Memory, Turns}
 use Rattle.site_simulation.specs.declared.progress.LineFault.{LineFault}
 use Rattle.site_simulation.specs.declared.progress.LineFault.TheVariants.{LongLine as long_line, Memory as line_memory}
 use Rattle.site_simulation.specs.declared.progress.LineFault.TheVariants.{Turns as line_turns}
@@ -122,20 +119,6 @@ pub whole_kept : (input before rest now : Option (List ℕ)) (place : Place) →
 whole_kept None before rest now place owes = tt
 whole_kept (Some inp) before None now place owes = absurd owes
 whole_kept (Some inp) before (Some left) now place owes = whole_from inp before now place left owes
-
-pub whole_front : (input before now : Option (List ℕ)) → WroteWholeLines input before now → WroteFront input before now
-whole_front None before now whole = tt
-whole_front (Some inp) before now (read, left, more, parts, wrote, front) = (ended_of read, more, wrote, front)
-
--- After every fault a front was written.
-pub broke_front : (input before now : Option (List ℕ)) (fault : SimFault) → BreaksOff input before fault now →
-    WroteFront input before now
-broke_front input before now Read broke = whole_front input before now broke
-broke_front input before now Write broke = broke
-broke_front None before now LongLine broke = tt
-broke_front (Some inp) before now LongLine broke = (output_of inp, [], broke.0, append-nil (output_of inp))
-broke_front input before now Memory broke = whole_front input before now broke
-broke_front input before now Turns broke = whole_front input before now broke.0
 
 -- ---- one read
 
@@ -369,24 +352,8 @@ owes_start (Some inp) before place is =
     subst (λ (p : Place). OwesFor inp before before p inp) (sym is)
     (record { read = []; said = []; wrote = appends_none before; parts = refl; leads = nothing_yet })
 
--- The fault that is told is this one.
-pub fault_told : {A : Type 0} (input before now : Option (List ℕ)) (told fault : SimFault) →
-    IsErrOf {T = A} (Err told) fault → BreaksOff input before told now → BreaksOff input before fault now
-fault_told input before now told fault is broke =
-    let same : told ≡ fault = cc in
-    subst (λ (f : SimFault). BreaksOff input before f now) same broke
-
-pub ends_all : (input before now : Option (List ℕ)) (r : Result ℕ SimFault) → Ends input before r now →
-    IfOk r (WroteAll input before now)
-ends_all input before now (Ok lines) ends = ends
-ends_all input before now (Err fault) ends = tt
-
-pub ends_front : (input before now : Option (List ℕ)) (r : Result ℕ SimFault) → Ends input before r now →
-    OnErr r (WroteFront input before now)
-ends_front input before now (Ok lines) ends = tt
-ends_front input before now (Err fault) ends = broke_front input before now fault ends
-
-pub ends_fault : (input before now : Option (List ℕ)) (r : Result ℕ SimFault) (fault : SimFault) →
-    Ends input before r now → IsErrOf r fault → BreaksOff input before fault now
-ends_fault input before now (Ok lines) fault ends is = absurd cc
-ends_fault input before now (Err told) fault ends is = fault_told input before now told fault is ends
+-- what broke off the end of an input broke off all
+pub ends_broken : (input before now : Option (List ℕ)) (r : Result ℕ SimFault) → Ends input before r now →
+    IfErr r (λ fault. BreaksOff input before fault now)
+ends_broken input before now (Ok lines) ends = tt
+ends_broken input before now (Err fault) ends = ends

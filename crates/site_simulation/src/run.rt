@@ -1,11 +1,10 @@
 //! A script's answers, over any source and sink.
 
-ghost use Rattle.std.specs.Prelude.{◌≡◌, List, ℕ, Option, OnOk, OnErr, IfOk, IsErrOf, MatchBool};
+ghost use Rattle.std.specs.Prelude.{◌≡◌, List, ℕ, Option, IfOk, IfErr, MatchBool};
 ghost use Rattle.std.specs.Prelude.{false};
 ghost use Rattle.std.specs.Io.KnownBytes.{IsAtEnd};
 ghost use Rattle.devices.specs.Failures.{Rose};
-ghost use Rattle.site_simulation.specs.Simulation.{Owes, Turn, Ends, WroteFront, WroteWholeLines};
-ghost use Rattle.site_simulation.specs.Simulation.{WroteUpToLong, WroteAll, IsEndless, TookBytes};
+ghost use Rattle.site_simulation.specs.Simulation.{Owes, Turn, Ends, BreaksOff, WroteAll, TookBytes};
 ghost use Rattle.site_simulation.specs.Simulation.{fault_of_line, tells_read, tells_write};
 ghost use Rattle.site_simulation.specs.Simulation.{number_of};
 
@@ -157,14 +156,9 @@ pub fn simulate<R: Source, W: Sink>(
     ensures all { IfOk result
         (WroteAll (R.remaining reader.old) (W.contents writer.old) (W.contents writer.new)) }
 
-    // What a fault leaves written.
-    ensures front { OnErr result
-        (WroteFront (R.remaining reader.old) (W.contents writer.old) (W.contents writer.new)) }
-    ensures whole_lines { IsErrOf result SimFault.Memory →
-        WroteWholeLines (R.remaining reader.old) (W.contents writer.old) (W.contents writer.new) }
-    ensures long_line { IsErrOf result SimFault.LongLine →
-        WroteUpToLong (R.remaining reader.old) (W.contents writer.old) (W.contents writer.new) }
-    ensures turns { IsErrOf result SimFault.Turns → IsEndless (R.remaining reader.old) }
+    // What a fault leaves written: whole lines, but where a write failed.
+    ensures broken { IfErr result (λ fault. BreaksOff (R.remaining reader.old)
+        (W.contents writer.old) fault (W.contents writer.new)) }
 
     // A fault of a device is told exactly where one was counted.
     ensures read { MatchBool (tells_read result)

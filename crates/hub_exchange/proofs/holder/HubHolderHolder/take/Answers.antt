@@ -1,4 +1,4 @@
-use Rattle.std.proofs.Common.{inl, refl}
+use Rattle.std.proofs.Common.{inl, inr, refl}
 use Rattle.hub_exchange.proofs.HolderLaws.{refused_at_hub}
 use Rattle.hub_exchange.proofs.OnwardLaws.{onward_learned}
 use Rattle.hub_exchange.proofs.holder.HubHolderHolder.take.Goals as goal
@@ -9,9 +9,13 @@ invariant_of-self g c = onward_learned _ _ _ _ _ _ c.learn.ensures.this c.learn.
     c.publish-taken.ensures.onward
 
 -- What the shelf has kept only the hub refuses.
-pub returns-in-Ok-clause-why : goal.returns-in-Ok-clause-why
-returns-in-Ok-clause-why g c = rw (← c.self.view_is) (refused_at_hub g.P.Put.refuses g.H.HubName.opening _ _ c.args.op
+pub returns-in-Ok-put-clause-why : goal.returns-in-Ok-put-clause-why
+returns-in-Ok-put-clause-why g c = rw (← c.self.view_is) (refused_at_hub g.P.Put.refuses g.H.HubName.opening _ _ c.args.op
     c.publish-taken.result c.publish-taken.ensures.refused c.publish-taken.ensures.why)
+
+-- Memory was refused for the record.
+pub returns-in_default-clause-why : goal.returns-in_default-clause-why
+returns-in_default-clause-why g c = record { seen = refl; why = inr (inr refl) }
 
 -- The shelf refused it.
 pub returns-clause-why : goal.returns-clause-why
