@@ -71,7 +71,7 @@ fn made_in_folder<'a, T: Threads + Sync>(
     making: Making,
 ) -> Result<Corrected, Refused<'a>> {
     let Making {
-        alloc,
+        alloc: _,
         site: number,
         change,
     } = making;
@@ -79,7 +79,7 @@ fn made_in_folder<'a, T: Threads + Sync>(
     let (site, mut log) = site_in(rt, threads, folder)?;
     about(
         folder,
-        correct_with(alloc, &mut log, &site, number, target, tag, value),
+        correct_with(&mut log, &site, number, target, tag, value),
     )
 }
 

@@ -1,5 +1,5 @@
 -- Counting on the way.
-use Rattle.std.proofs.Common.{◌≡◌, ◌+◌, ◌≤◌, ℕ, suc, List, [], ◌∷◌, ◌++◌, Bool, true, false, cond, filter, length}
+use Rattle.std.proofs.Common.{◌≡◌, ◌+◌, ℕ, List, [], ◌∷◌, ◌++◌, Bool, true, false, cond, filter, length}
 use Rattle.std.proofs.Common.{refl, ap, arith}
 use Rattle.std.specs.Prelude.{◌==◌}
 use Rattle.op_log.specs.Heads.{Head}
@@ -28,17 +28,6 @@ count_more kind (k ∷ heads) h = by (kind_in k.front == kind) (count_more kind 
         (filter (λ (x : Head). kind_in x.front == kind) heads)) + one_if (kind_in h.front == kind)
     by true is = omega (arith, is)
     by false is = is
-
--- no more of some heads than there are
-pub count_few : (kind : ℕ) (heads : List Head) → count_in kind heads ≤ length heads
-count_few kind [] = omega arith
-count_few kind (k ∷ heads) = by (kind_in k.front == kind) (count_few kind heads)
-  where
-    by : (b : Bool) → count_in kind heads ≤ length heads
-        → length (cond b (k ∷ filter (λ (x : Head). kind_in x.front == kind) heads)
-        (filter (λ (x : Head). kind_in x.front == kind) heads)) ≤ suc (length heads)
-    by true few = omega (arith, few)
-    by false few = omega (arith, few)
 
 -- one more that has the kind
 pub counted_one : (kind n : ℕ) (heads all : List Head) (h : Head) → n ≡ count_in kind heads → all ≡ heads ++ h ∷ []

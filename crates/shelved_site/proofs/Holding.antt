@@ -1,5 +1,5 @@
 -- What a log has goes on to be there, and nothing else comes.
-use Rattle.std.proofs.Common.{◌≡◌, ◌+◌, ◌≤◌, ℕ, List, ◌++◌, All, length, take, drop, sym, ◌∙◌, ap, subst, arith}
+use Rattle.std.proofs.Common.{◌≡◌, ◌+◌, ◌≤◌, ℕ, List, All, length, take, drop, sym, ◌∙◌, ap, subst, arith}
 use Rattle.std.proofs.lemmas.List.{length-take-le, length-drop, get_or-take, get_or-drop}
 use Rattle.sqlite_disk.specs.Disk.{Holds}
 use Rattle.sqlite_disk.specs.declared.Disk.{Ghosts}
@@ -9,7 +9,7 @@ use Rattle.sha2.specs.Sha256.{sha256}
 use Rattle.operation.specs.declared.op.Op.{Op}
 use Rattle.operation.specs.Spelling.{hash_of, spelling}
 use Rattle.op_log.specs.Heads.{Entry, Head, body_of, head_of}
-use Rattle.op_log.proofs.Lookups.{among, still_first}
+use Rattle.op_log.proofs.Lookups.{among}
 use Rattle.op_log.specs.Kept.{Has, IsBelow, IsHeld}
 
 -- operations that are spelled alike have one digest
@@ -43,12 +43,7 @@ module _ {B : Type 0} (g : Ghosts B) (old new : B) (end end' : ℕ) (spared : Sp
       let was = held some in
       (spared.kept e.1 (body_of e.0) was.1 was.0, omega (arith, was.1, longer))
 
-  -- an operation goes on to be had
-  pub has_on : (heads more : List Head) (op : Op) → Has g old end heads op → Has g new end' (heads ++ more) op
-  has_on heads more op (at, first, held) =
-      (at, still_first heads more (hash_of op) (head_of (op, at)) first, held_on (op, at) held)
-
-  -- and none that was not had before is had under the same heads
+  -- no operation that was not had before is had under the same heads
   pub has_back : (heads : List Head) (op : Op) → end ≤ length (g.seen old) → All (IsBelow end) heads → Has g new end' heads op
       → Has g old end heads op
   has_back heads op reach below (at, first, held) =

@@ -3,7 +3,6 @@ pub mod Counting
 pub mod Hashed
 pub mod Holding
 pub mod Keeps
-pub mod KnownLaws
 pub mod Listings
 pub mod Loaded
 pub mod Loads

@@ -57,8 +57,8 @@ IsUncorrected lists number target tag value (Site _) = ⊤
 IsUncorrected lists number target tag value (Hub fault) =
     (ops : List Op) × lists ops × (next_correction number (after_recording ops) target tag value ≡ Err fault)
 
--- no correction was made at a site: its store refused, or it did, or none comes next there, for this reason
+-- no correction was made at a site: its store refused, or none comes next there, for this reason
 abbrev pub IsUnmade : Map → ℕ → Target → ℕ → List ℕ → ShelvedFault → Type 0
 IsUnmade site number target tag value (Shelf _) = ⊤
-IsUnmade site number target tag value (Site _) = ⊤
+IsUnmade site number target tag value (Site _) = ⊥
 IsUnmade site number target tag value (Hub fault) = next_correction number site target tag value ≡ Err fault

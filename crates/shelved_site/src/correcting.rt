@@ -27,7 +27,6 @@ pub struct Corrected {
 
 /// Corrects an attribute at a site, which has this number and whose operations stand in a store.
 pub fn correct_with<S: Store>(
-    alloc: Global,
     store: &mut S,
     site: &Site,
     number: u16,
@@ -49,7 +48,7 @@ pub fn correct_with<S: Store>(
     ensures stamps_spent { result ≡ Err (Hub HubFault.StampsSpent)
         → top_counter_of (ops_of site.now) ≡ LAST_COUNTER }
 {
-    let is_known = is_known(alloc, site, &target)?;
+    let is_known = is_known(site, &target);
     let made = next_correction(site, number, target, tag, value)?;
     let stamp = made.stamp();
     let _kept = store.add(&Op::Correction(made))?;
@@ -80,5 +79,5 @@ pub fn correct_on<S: Store>(
         → IsSpent (S.lists store.old) }
 {
     let site = site_on(alloc, store, &Silence)?;
-    correct_with(alloc, store, &site, number, target, tag, value)
+    correct_with(store, &site, number, target, tag, value)
 }

@@ -57,18 +57,6 @@ impl<H: Disk + Drop, B: Disk + Drop> KeptLog<H, B> {
             alloc,
         }
     }
-
-    /// The log, which loads what is kept.
-    pub fn into_log(self) -> OpLog<H, B>
-        ensures { result ≡ log_of self }
-    {
-        let KeptLog {
-            log,
-            records: _,
-            alloc: _,
-        } = self;
-        log
-    }
 }
 
 /// Adds the record of an operation to a file of records, if it is a content, and no rejection note.

@@ -1,7 +1,6 @@
 //! Whether a site has something of a correction's target.
 
-ghost use Rattle.std.specs.Prelude.{◌≡◌, IfOk};
-ghost use Rattle.std.specs.List.{list_any};
+ghost use Rattle.std.specs.Prelude.{◌≡◌};
 ghost use Rattle.site_state.specs.Site.{ops_of};
 ghost use Rattle.archive_model.specs.Attributes.{is_target_of};
 ghost use Rattle.shelved_site.specs.Corrections.{is_of, is_known as is_known_in};
@@ -9,8 +8,7 @@ ghost use Rattle.shelved_site.specs.Corrections.{is_of, is_known as is_known_in}
 use archive_model::{patient, series, study};
 use operation::Target;
 use records::{Parts, RecordedContent, RecordedOp};
-use site_state::{Site, SiteFault};
-use std::alloc::Global;
+use site_state::Site;
 
 /// Whether a content is one of a target.
 fn is_content_of(content: &RecordedContent, target: &Target) -> bool
@@ -32,17 +30,9 @@ fn is_of_target(op: &RecordedOp, target: &Target) -> bool
     }
 }
 
-/// Whether one of some operations is a content of a target.
-fn has_one(ops: &[&RecordedOp], target: &Target) -> bool
-    ensures { result ≡ list_any (λ o. is_of target.now o.now) ops.now }
+/// Whether a site has a content of a target. Its operations are looked at as they stand there.
+pub(crate) fn is_known(site: &Site, target: &Target) -> bool
+    ensures { result ≡ is_known_in target.now (ops_of site.now) }
 {
-    ops.iter().any(|op| is_of_target(op, target))
-}
-
-/// Whether a site has a content of a target.
-pub(crate) fn is_known(alloc: Global, site: &Site, target: &Target) -> Result<bool, SiteFault>
-    ensures { IfOk result (λ known. known ≡ is_known_in target.now (ops_of site.now)) }
-{
-    let ops = site.operations(alloc)?;
-    Ok(has_one(ops.as_slice(), target))
+    site.tree().values().any(|op| is_of_target(op, target))
 }

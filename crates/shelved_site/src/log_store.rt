@@ -101,13 +101,6 @@ impl<H: Disk + Drop, B: Disk> Store for KeptLog<H, B> {
 
     ghost same_count = { λ s t same kind. ap (count_in kind) same.looks.places };
 
-    fn all(&mut self) -> Result<Vec<Digested>, ShelfFault> {
-        match self.log.all(self.alloc) {
-            Ok(ops) => Ok(ops),
-            Err(refused) => Err(fault(refused)),
-        }
-    }
-
     fn records(&mut self) -> Result<Vec<RecordedOp>, ShelfFault> {
         match self.log.records(self.alloc) {
             Ok(recorded) => Ok(recorded),

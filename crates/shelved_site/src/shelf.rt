@@ -71,10 +71,6 @@ impl<S: Alter> Store for Shelf<S> {
     ghost same_count = { λ s t same kind.
         ap (λ (d : Database). count_of kind (d.trees (tree_in d.schema))) same.0.now_is };
 
-    fn all(&mut self) -> Result<Vec<Digested>, ShelfFault> {
-        Shelf::all(self)
-    }
-
     fn records(&mut self) -> Result<Vec<RecordedOp>, ShelfFault> {
         Shelf::records(self)
     }

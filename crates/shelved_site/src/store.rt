@@ -42,14 +42,6 @@ pub trait Store: Keep {
     // The same where those of a kind are counted.
     ghost refuses_count: { Self → ℕ → Self → Fault → Type 0 };
 
-    /// All operations. Each is hashed once, to test it, and comes with its digest.
-    fn all(&mut self) -> Result<Vec<Digested>, ShelfFault>
-        ensures all { is_clean self.new → IfOk result (λ ops. lists self.old ops.items) }
-        ensures same { is_clean self.new → OnOk result (is_same self.old self.new) }
-        ensures refused { is_clean self.new → OnErr result (spares self.old self.new) }
-        ensures why { is_clean self.new → IfErr result (refuses_all self.old self.new) }
-        ensures clean { is_clean self.new → is_clean self.old };
-
     /// The records of all operations. Each operation is read and hashed once, to test it, and let
     /// go before the next is read.
     fn records(&mut self) -> Result<Vec<RecordedOp>, ShelfFault>
@@ -79,8 +71,8 @@ pub trait Store: Keep {
         ensures why { is_clean self.new → IfErr result (refuses_count self.old kind self.new) }
         ensures clean { is_clean self.new → is_clean self.old };
 
-    /// Tests each operation against its digest. What it has cause to refuse is as of `all`, but
-    /// that an operation that is not the one of its digest is no fault here.
+    /// Tests each operation against its digest. What it has cause to refuse is as of `records`,
+    /// but that an operation that is not the one of its digest is no fault here.
     fn verify<T: Testing>(&mut self, hearing: &T) -> Result<Verified, ShelfFault>
         ensures verified { is_clean self.new → IfOk result
             (λ told. verifies self.old told.operations told.damaged.items) }
