@@ -1,7 +1,7 @@
 -- What is written in the middle of an input, and what is owed.
 use Rattle.std.proofs.Common.{◌≡◌, ℕ, ◌+◌, ◌<◌, ◌≤◌, List, [], ◌∷◌, ◌++◌, take, drop, length, Option, Some, None}
 use Rattle.std.proofs.Common.{Result, Ok, Err, Bool, true, false, refl, sym, ap, ◌∙◌, subst, ◌==◌, cond, append_assoc}
-use Rattle.std.proofs.Common.{zero-add, arith}
+use Rattle.std.proofs.Common.{zero-add, arith, IfErr}
 use Rattle.std.specs.Io.KnownBytes.{Appends, Consumes, IsAtEnd}
 use Rattle.std.proofs.lemmas.List.{take-append-drop, length-append, append-nil}
 use Rattle.std.proofs.Math.Seq.{take-length}
