@@ -1,5 +1,7 @@
 -- The correction that comes next, and what is true whatever came of it.
-use Rattle.std.proofs.Common.{◌≡◌, ◌∙◌, ◌+◌, ◌≤◌, ℕ, max, Bool, true, false, Result, Ok, Err, OnOk, ap, arith}
+use Rattle.std.proofs.Common.{◌≡◌, ◌∙◌, ◌+◌, ◌≤◌, ℕ, max, Bool, true, false, List, Result, Ok, Err, OnOk, ap, arith}
+use Rattle.std.proofs.Common.{subst}
+use mathlib.Core.List.{IsPrefix}
 use Rattle.std.specs.Prelude.{◌==◌, if◌then◌else◌}
 use Rattle.std.proofs.Math.Nat.{le-max_right}
 use Rattle.operation.specs.declared.fault.OpFault.TheVariants.{BadCorrection}
@@ -10,11 +12,19 @@ use Rattle.site_desk.specs.declared.fault.DeskFault.{DeskFault}
 use Rattle.site_desk.specs.declared.fault.DeskFault.TheVariants.{StampsSpent}
 use Rattle.command_words.specs.declared.Change.{Change}
 use Rattle.site_hub.specs.Stamps.{LAST_COUNTER, made_with}
+use Rattle.hub_exchange.specs.Putting.{WasWritten}
+use Rattle.hub_exchange.proofs.PuttingLaws.{written_more}
 use Rattle.site_desk.specs.Making.{made_by, next_over}
 
 pub on_ok : {A B P : Type 0} (r : Result A B) → P → OnOk r P
 on_ok (Ok a) p = p
 on_ok (Err e) p = tt
+
+-- what stands in the beginning of a ledger that came with an answer stands in what is known of it since
+pub written_since : (front known : List (List ℕ)) (told digest : List ℕ) → IsPrefix front known → told ≡ digest
+    → WasWritten front told → WasWritten known digest
+written_since front known told digest begins is written =
+    written_more front known begins digest (subst (WasWritten front) is written)
 
 abbrev pub told : CorrectionParts → Result CorrectionParts DeskFault
 told parts = Ok parts

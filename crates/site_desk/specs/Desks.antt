@@ -1,5 +1,5 @@
 -- What the desk of a running site does.
-use Rattle.std.specs.Prelude.{◌≡◌, ℕ, ◌≤◌, ◌⊎◌, max, List, Some, Result, Ok, Err}
+use Rattle.std.specs.Prelude.{◌≡◌, ℕ, ◌≤◌, ◌⊎◌, ◌++◌, ◌∷◌, [], max, List, Some, Result, Ok, Err}
 use mathlib.Core.List.{IsPrefix}
 use Rattle.http.specs.declared.request.Request.{Request}
 use Rattle.http_server.specs.declared.response.Response.{Response}
@@ -39,29 +39,45 @@ pub record GoesOn (before after : AtDesk) : Type 0 where
   pub site : after.site ≡ before.site
   pub last : before.last ≤ after.last
 
--- A desk made the correction that was asked for: its counter comes next over the history that was looked at and over
--- what the desk had made; it was written to the shelf's ledger; and it is the last that the pass has seen.
-pub record Makes (opening : Map) (before : AtDesk) (change : Change) (after : AtDesk) (made : Made) : Type 0 where
+-- A correction that was asked for was stored for a desk: its counter comes next over a history that begins with what
+-- the pass had seen, and begins what it has seen since, and over what the desk had made; it was written to the shelf's
+-- ledger; and its counter is the last that the desk has made.
+pub record Stores (opening : Map) (before : AtDesk) (change : Change) (after : AtDesk) (parts : CorrectionParts)
+    : Type 0 where
   pub turn : List Entry
   pub sees : IsPrefix before.pass.seen turn
-  pub parts : CorrectionParts
+  pub seen : IsPrefix turn after.pass.seen
   pub next : next_over before.site (max (top_counter_of (ops_of (set_of opening turn))) before.last) change ≡ Ok parts
   pub stored : WasWritten after.known (digest_of (a_correction parts))
+  pub last : after.last ≡ parts.stamp.counter
+
+-- A desk made the correction that was asked for: it was stored, it is the last that the pass has seen, and it alone
+-- became the pass's own.
+pub record Makes (opening : Map) (before : AtDesk) (change : Change) (after : AtDesk) (made : Made) : Type 0 where
+  pub parts : CorrectionParts
+  pub stores : Stores opening before change after parts
   pub shown : EndsWith after.pass.seen (entry_of before.pass.number (a_correction parts))
+  pub mine : after.pass.mine ≡ before.pass.mine ++ digest_of (a_correction parts) ∷ []
   pub counter : made.counter ≡ parts.stamp.counter
   pub site : made.site ≡ parts.stamp.site
-  pub last : after.last ≡ made.counter
 
--- A desk made none: its pass has only looked, unless the shelf has the correction and the hub does not show it yet.
-abbrev pub MakesNone : AtDesk → AtDesk → DeskFault → Type 0
-MakesNone before after fault = HasLooked before.pass after.pass ⊎ (fault ≡ Unshown)
+-- A desk made none: its pass has only looked. Or one that was asked for was stored, and the hub does not show it yet,
+-- which alone is told so.
+pub record MakesNone (opening : Map) (before : AtDesk) (asks : Change → Type 0) (after : AtDesk) (fault : DeskFault)
+    : Type 0 where
+  pub unshown : fault ≡ Unshown → (change : Change) × asks change
+      × ((parts : CorrectionParts) × Stores opening before change after parts)
+  pub kept : (fault ≡ Unshown) ⊎ HasLooked before.pass after.pass
+
+-- the words of a request ask for a change
+abbrev pub Asks : Request (List ℕ) → Change → Type 0
+Asks request change = (words : Words) × Says (posting_of request) words × (change_of words ≡ Some change)
 
 -- what a request comes to: the correction that its words ask for was made, or none was
 abbrev pub ComesTo : Map → AtDesk → Request (List ℕ) → AtDesk → Result Made DeskFault → Type 0
 ComesTo opening before request after (Ok made) =
-    (words : Words) × Says (posting_of request) words
-    × ((change : Change) × (change_of words ≡ Some change) × Makes opening before change after made)
-ComesTo opening before request after (Err fault) = MakesNone before after fault
+    (change : Change) × Asks request change × Makes opening before change after made
+ComesTo opening before request after (Err fault) = MakesNone opening before (Asks request) after fault
 
 -- a request is answered with what it comes to, or is refused without words
 pub record AnswersAt (opening : Map) (before : AtDesk) (request : Request (List ℕ)) (response : Response)

@@ -112,7 +112,7 @@ impl<
     /// Makes a correction of which each part may be.
     fn correct(&mut self, change: Change) -> Result<Made, DeskFault>
         ensures made { MatchResult result (Makes H.opening self.old change self.new)
-            (MakesNone self.old self.new) }
+            (MakesNone H.opening self.old (λ asked. asked ≡ change) self.new) }
         ensures goes_on { GoesOn self.old self.new }
     {
         let top = top_of(&mut self.pass, self.last)?;
@@ -139,7 +139,8 @@ impl<
     fn correct_by(&mut self, words: &Words) -> Result<Made, DeskFault>
         ensures made { IfOk result (λ made. (change : Change)
             × (change_of words.now ≡ Some change) × Makes H.opening self.old change self.new made) }
-        ensures none { IfErr result (MakesNone self.old self.new) }
+        ensures none { IfErr result (MakesNone H.opening self.old
+            (λ change. change_of words.now ≡ Some change) self.new) }
         ensures goes_on { GoesOn self.old self.new }
     {
         let change = change_by(self.alloc, words)?;

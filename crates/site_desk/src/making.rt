@@ -1,11 +1,12 @@
 //! A correction that is asked for: whether it may be, the one that comes next, and its way to the
 //! shelf and into the hub.
 
-ghost use Rattle.std.specs.Prelude.{◌≡◌, ◌⊎◌, Some, None, IfOk, IfErr, OnOk};
+ghost use Rattle.std.specs.Prelude.{◌≡◌, ◌⊎◌, ◌++◌, ◌∷◌, [], Some, None, Err, IfOk, IfErr, OnOk};
 ghost use mathlib.Core.List.{IsPrefix};
 ghost use Rattle.operation.specs.declared.op.Op.TheVariants.{Correction as a_correction};
 ghost use Rattle.operation.specs.Spelling.{digest_of};
-ghost use Rattle.site_desk.specs.declared.fault.DeskFault.TheVariants.{Memory, Unshown, Shelf};
+ghost use Rattle.site_desk.specs.declared.fault.DeskFault.TheVariants.{Memory, NoChange, Shelf};
+ghost use Rattle.site_desk.specs.declared.fault.DeskFault.TheVariants.{Unshown};
 ghost use Rattle.command_words.specs.Parts.{bad_part_of};
 ghost use Rattle.hub_exchange.specs.Putting.{WasWritten};
 ghost use Rattle.hub_exchange.specs.Onward.{IsOnward};
@@ -25,7 +26,8 @@ use std::sync::{Mutex, Wait};
 
 /// The change that four words ask for.
 pub(crate) fn change_by(alloc: Global, words: &Words) -> Result<Change, DeskFault>
-    ensures { IfOk result (λ change. change_of words.now ≡ Some change) }
+    ensures ok { IfOk result (λ change. change_of words.now ≡ Some change) }
+    ensures fault { IfErr result (λ fault. (fault ≡ NoChange) ⊎ (fault ≡ Memory)) }
 {
     let (Ok(target), Ok(key), Ok(tag), Ok(value)) = (
         str::from_utf8(words.target.as_slice()),
@@ -102,6 +104,7 @@ pub(crate) fn publish<H: HubName, T: Shows<H>, R: Wait + Drop, S: Wait, N: Ledge
 ) -> Result<(), DeskFault>
     requires { shelved.now.digest ≡ digest_of op }
     ensures shown { OnOk result (EndsWith pass.new.seen (entry_of pass.old.number op)) }
+    ensures mine { OnOk result (pass.new.mine ≡ pass.old.mine ++ digest_of op ∷ []) }
     ensures onward { IsOnward (WasWritten shelved.now.extract) pass.old pass.new }
     ensures unshown { IfErr result (λ fault. fault ≡ Unshown) }
 {
@@ -121,11 +124,20 @@ pub(crate) fn keep<H: HubName, T: Shows<H>, R: Wait + Drop, S: Wait, N: LedgerNa
     extract: &mut Extract<N>,
     made: Correction,
 ) -> Result<(), DeskFault>
+    // Where the hub took it.
     ensures stored { OnOk result (WasWritten extract.new (digest_of (a_correction made))) }
     ensures shown { OnOk result
         (EndsWith pass.new.seen (entry_of pass.old.number (a_correction made))) }
+    ensures mine { OnOk result
+        (pass.new.mine ≡ pass.old.mine ++ digest_of (a_correction made) ∷ []) }
+
+    // Whatever came of it.
     ensures onward { IsOnward (WasWritten extract.new) pass.old pass.new }
     ensures known { IsPrefix extract.old extract.new }
+
+    // Where it did not: the shelf has it, or the pass stays.
+    ensures unshown { result ≡ Err Unshown
+        → WasWritten extract.new (digest_of (a_correction made)) }
     ensures refused { IfErr result (λ fault. (fault ≡ Unshown)
         ⊎ (((fault ≡ Memory) ⊎ (fault ≡ Shelf)) × (pass.new ≡ pass.old))) }
 {

@@ -1,6 +1,7 @@
-use Rattle.std.proofs.Common.{◌≡◌, refl, sym, ap, subst, ℕ}
+use Rattle.std.proofs.Common.{◌≡◌, ◌∙◌, refl, sym, ap, subst, ℕ, List, [], ◌∷◌, ◌++◌}
 use Rattle.operation.specs.declared.op.Op.TheVariants.{Correction as a_correction}
 use Rattle.operation.specs.declared.stamp.Stamp.{Stamp}
+use Rattle.operation.specs.Spelling.{digest_of}
 use Rattle.site_hub.specs.History.{entry_of, EndsWith}
 use Rattle.site_desk.specs.Making.{next_over}
 use Rattle.site_desk.proofs.DeskLaws.{looked_onward}
@@ -29,18 +30,24 @@ returns-clause-goes_on g c = rw (← c.self.view_is) (record {
       c.stamp-stamp.result c.in_ok-top.ensures.top c.in_ok-made.ensures c.stamp-stamp.ensures.value;
 })
 
--- It came next over what the look saw, was written, and is the last that the pass has seen.
+-- It came next over what the look saw, was written, is the last that the pass has seen, and alone became its own.
 pub returns-clause-made : goal.returns-clause-made
 returns-clause-made g c = rw (← c.self.view_is) (record {
-  turn = c.top_of.new.pass.seen;
-  sees = c.top_of.ensures.looked.seen;
   parts = c.in_ok-made.made;
-  next = sym (subst (λ (top : ℕ). told c.in_ok-made.made ≡ next_over c.self.inside.site top c.args.change)
-      c.in_ok-top.ensures.top c.in_ok-made.ensures);
-  stored = c.in_ok-keep.ensures.stored;
+  stores = record {
+    turn = c.top_of.new.pass.seen;
+    sees = c.top_of.ensures.looked.seen;
+    seen = c.keep.ensures.onward.later.seen;
+    next = sym (subst (λ (top : ℕ). told c.in_ok-made.made ≡ next_over c.self.inside.site top c.args.change)
+        c.in_ok-top.ensures.top c.in_ok-made.ensures);
+    stored = c.in_ok-keep.ensures.stored;
+    last = ap (λ (s : Stamp). s.counter) c.stamp-stamp.ensures.value;
+  };
   shown = subst (λ (number : ℕ). EndsWith c.keep.new.pass.seen (entry_of number (a_correction c.in_ok-made.made)))
       c.top_of.ensures.looked.number c.in_ok-keep.ensures.shown;
+  mine = c.in_ok-keep.ensures.mine
+      ∙ ap (λ (mine : List (List ℕ)). mine ++ digest_of (a_correction c.in_ok-made.made) ∷ [])
+      c.top_of.ensures.looked.mine;
   counter = ap (λ (s : Stamp). s.counter) c.stamp-stamp.ensures.value;
   site = ap (λ (s : Stamp). s.site) c.stamp-stamp.ensures.value;
-  last = refl;
 })
