@@ -3,16 +3,11 @@
 ghost use Rattle.std.specs.Prelude.{IfOk};
 ghost use Rattle.archive_server.specs.Entering.{IsAsAllowed};
 
-use crate::journal::tell_not_accepted;
-use crate::manner::Manner;
-use crate::visit::turn;
 use crate::wire::Wire;
 use command_words::{Network, is_allowed};
-use log::Log;
 use std::io;
 use std::net::{SocketAddr, TcpListener};
-use std::thread::sleep;
-use std::time::{Clock, Duration};
+use std::time::Duration;
 
 /// A listener, and the networks from which peers may come. A connection from elsewhere is closed
 /// before a byte of it is read. Where no network is named, each peer may come.
@@ -40,13 +35,4 @@ pub(crate) fn accept_from(entrance: Entrance<'_>, idle: Option<Duration>) -> io:
         return Ok(Entered::LetIn(Wire::new(stream, idle)?, peer));
     }
     Ok(Entered::TurnedAway(peer))
-}
-
-/// Tells of an accept that failed, and rests for a turn, since what the system lacked (a file, say)
-/// it lacks at once again; neither where the server was ended.
-pub(crate) fn rest_behind_accept<S: Clock + Log>(rt: &S, manner: Manner<'_>, error: &io::Error) {
-    tell_not_accepted(rt, manner, error);
-    if !manner.is_ended() {
-        sleep(rt, turn());
-    }
 }
