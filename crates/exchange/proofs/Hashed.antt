@@ -4,13 +4,9 @@ use Rattle.std.proofs.Common.{refl, sym, ap, subst, ◌∙◌, arith, append_ass
 use Rattle.std.proofs.lemmas.List.{append-nil}
 use Rattle.std.specs.Prelude.{map, filter, ⊤}
 use Rattle.std.specs.List.{range_with_len, AllByRecursion}
-use Rattle.std.specs.Map.{keys_of}
 use Rattle.sha2.specs.Sha256.{sha256}
 use Rattle.sha2.specs.declared.Sha256.{Sha256}
 use Rattle.sha2.specs.Hashers.{Holds256}
-use Rattle.operation.specs.declared.op.Op.{Op}
-use Rattle.exchange.specs.declared.version.Version.{Version}
-use Rattle.exchange.specs.Held.{is_spoken, spoken_of}
 use Rattle.exchange.specs.Buckets.{bucket_text, bucket_of}
 use Rattle.exchange.specs.Hashing.{AllHold}
 
@@ -37,33 +33,18 @@ pub record IsFed (hashers : List Sha256) (left all : List (List ℕ)) : Type 0 w
   pub whole : fed ++ left ≡ all
   pub holds : AllHold hashers fed
 
--- an operation that is spoken of stands first
-spoken_first : (version : Version) (digest : List ℕ) (op : Op) (rest : List (List ℕ × Op)) → is_spoken version op ≡ true
-    → spoken_of version ((digest, op) ∷ rest) ≡ digest ∷ spoken_of version rest
-spoken_first version digest op rest is =
-    ap (λ b. keys_of (cond b ((digest, op) ∷ filter (λ e. is_spoken version e.1) rest)
-    (filter (λ e. is_spoken version e.1) rest))) is
-
-pub next_fed : (version : Version) (hs hashed : List Sha256) (digest : List ℕ) (op : Op)
-    (left rest : List (List ℕ × Op)) (all : List (List ℕ)) → IsFed hs (spoken_of version left) all → left ≡ (digest, op)
-    ∷ rest → is_spoken version op ≡ true
-    → ((ds : List (List ℕ)) → AllHold hs ds → AllHold hashed (ds ++ digest ∷ []))
-    → IsFed hashed (spoken_of version rest) all
-next_fed version hs hashed digest op left rest all was steps is feeds = record {
+pub next_fed : (hs hashed : List Sha256) (digest : List ℕ) (left rest all : List (List ℕ)) → IsFed hs left all
+    → left ≡ digest ∷ rest → ((ds : List (List ℕ)) → AllHold hs ds → AllHold hashed (ds ++ digest ∷ []))
+    → IsFed hashed rest all
+next_fed hs hashed digest left rest all was steps feeds = record {
   fed = was.fed ++ digest ∷ [];
-  whole =
-      append_assoc was.fed (digest ∷ []) (spoken_of version rest)
-      ∙ ap (λ ds. was.fed ++ ds) (sym (spoken_first version digest op rest is))
-      ∙ ap (λ es. was.fed ++ spoken_of version es) (sym steps)
-      ∙ was.whole;
+  whole = append_assoc was.fed (digest ∷ []) rest ∙ ap (λ ds. was.fed ++ ds) (sym steps) ∙ was.whole;
   holds = feeds was.fed was.holds;
 }
 
 -- where none is left, all were hashed
-pub all_fed : (version : Version) (hs : List Sha256) (left : List (List ℕ × Op)) (all : List (List ℕ))
-    (was : IsFed hs (spoken_of version left) all) → left ≡ [] → was.fed ≡ all
-all_fed version hs left all was none = sym (append-nil was.fed) ∙ ap (λ es. was.fed ++ spoken_of version es) (sym none)
-    ∙ was.whole
+pub all_fed : (hs : List Sha256) (left all : List (List ℕ)) (was : IsFed hs left all) → left ≡ [] → was.fed ≡ all
+all_fed hs left all was none = sym (append-nil was.fed) ∙ ap (λ ds. was.fed ++ ds) (sym none) ∙ was.whole
 
 -- ---- what was hashed, place by place
 

@@ -1,20 +1,16 @@
 //! What is told of the digests that begin with each byte, instead of the digests.
 
 ghost use Rattle.std.specs.Prelude.{◌≡◌, ◌++◌, ◌∷◌, ◌<◌, ◌==◌, [], List, ℕ, IfOk, length, get_or};
-ghost use Rattle.std.specs.Map.{keys_of};
 ghost use Rattle.std.specs.List.{list_any};
-ghost use Rattle.exchange.specs.Held.{place_of, spoken_of};
+ghost use Rattle.exchange.specs.Held.{place_of};
 ghost use Rattle.exchange.specs.Buckets.{bucket_list, unequal as unequal_in, is_unequal as is_unequal_in};
 ghost use Rattle.exchange.specs.Hashing.{AllHold};
 
-use crate::version::Version;
-use exchange_frames::BUCKET_COUNT;
+use exchange_frames::{BUCKET_COUNT, Digests};
 use octets::{ListOf, Octets};
 use operation::Digest;
-use records::RecordedOp;
 use sha2::Sha256;
 use std::alloc::{AllocError, Global};
-use std::collections::BTreeMap;
 
 /// The first byte of a digest.
 pub(crate) fn place_of_digest(digest: &Digest) -> usize
@@ -59,21 +55,15 @@ fn finish(alloc: Global, hashers: Vec<Sha256>) -> Result<ListOf<Digest>, AllocEr
     Ok(ListOf::of(buckets))
 }
 
-/// The buckets of the operations of a tree that a version speaks of. Their digests are hashed as
-/// they stand in it.
-pub fn buckets_of_tree(
-    alloc: Global,
-    version: Version,
-    tree: &BTreeMap<Digest, RecordedOp>,
-) -> Result<ListOf<Digest>, AllocError>
-    ensures { IfOk result (λ buckets. buckets
-        ≡ bucket_list (spoken_of version tree.now.entries)) }
+/// For each first byte, the SHA-256 of those of some digests that begin with it, in the order
+/// given.
+pub fn buckets_of(alloc: Global, digests: &Digests) -> Result<ListOf<Digest>, AllocError>
+    ensures { IfOk result (λ buckets. buckets ≡ bucket_list digests.now) }
 {
     let mut hashers = new_hashers(alloc)?;
-    for (digest, op) in tree.iter() {
-        if version.speaks_of(op) {
-            feed(&mut hashers, digest);
-        }
+    let arrays = digests.as_arrays();
+    for bytes in arrays {
+        feed(&mut hashers, &Digest::of(*bytes));
     }
     finish(alloc, hashers)
 }

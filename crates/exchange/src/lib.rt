@@ -30,7 +30,7 @@ mod task;
 mod version;
 mod whole_sites;
 
-pub use buckets::buckets_of_tree;
+pub use buckets::buckets_of;
 pub use exchange_frames::{
     Digests, DigestsMut, Frame, FrameFault, FrameHeader, FrameText, HEADER_LENGTH, LONGEST_BODY,
     MOST_DIGESTS, a_give_is_a_frame, a_text_spells_one_frame, frames_have_these_kinds,

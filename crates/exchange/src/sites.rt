@@ -5,7 +5,7 @@ ghost use Rattle.exchange.specs.Held.{offered, offered_in, spoken_of, place_of, 
 ghost use Rattle.exchange.specs.Buckets.{bucket_list};
 ghost use Rattle.exchange.specs.Places.{front_at, end_at};
 
-use crate::buckets::{buckets_of_tree, has_place, place_of_digest};
+use crate::buckets::{buckets_of, has_place, place_of_digest};
 use crate::version::Version;
 use exchange_frames::{BUCKET_COUNT, DIGEST_LENGTH, Digests, DigestsMut};
 use octets::ListOf;
@@ -110,7 +110,8 @@ pub fn buckets_of_site(
 ) -> Result<ListOf<Digest>, AllocError>
     ensures { IfOk result (λ buckets. buckets ≡ bucket_list (offered version site.now)) }
 {
-    buckets_of_tree(alloc, version, site.tree())
+    let digests = digests_of_site(alloc, version, site)?;
+    buckets_of(alloc, &digests)
 }
 
 /// Those of some digests that a site does not have, in the order given.

@@ -3,13 +3,10 @@
 ghost use Rattle.std.specs.Prelude.{◌≡◌, IfOk};
 ghost use Rattle.site_state.specs.Site.{held_at};
 ghost use Rattle.exchange.specs.Held.{offered, offered_in, lacked, held_of};
-ghost use Rattle.exchange.specs.Buckets.{bucket_list};
 
 use exchange::{
-    Digests, Version, buckets_of_site, digests_of_site, digests_of_site_in, held_of_site,
-    missing_of_site,
+    Digests, Version, digests_of_site, digests_of_site_in, held_of_site, missing_of_site,
 };
-use octets::ListOf;
 use operation::Digest;
 use records::RecordedOp;
 use site_hub::Question;
@@ -42,20 +39,6 @@ impl<'a> Question<Digests> for In<'a> {
 
     fn answer(&self, alloc: Global, site: &Site) -> Result<Digests, AllocError> {
         digests_of_site_in(alloc, self.version, self.places, site)
-    }
-}
-
-/// Asks for their buckets.
-#[derive(Clone, Copy)]
-pub(crate) struct Buckets {
-    pub version: Version,
-}
-
-impl Question<ListOf<Digest>> for Buckets {
-    ghost answers = { λ q m buckets. buckets ≡ bucket_list (offered q.version m) };
-
-    fn answer(&self, alloc: Global, site: &Site) -> Result<ListOf<Digest>, AllocError> {
-        buckets_of_site(alloc, self.version, site)
     }
 }
 

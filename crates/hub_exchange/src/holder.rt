@@ -10,11 +10,11 @@ ghost use Rattle.hub_exchange.specs.Fault.{refusal_of, reply_to, RefusesLook, Re
 ghost use Rattle.hub_exchange.specs.Onward.{IsOnward};
 ghost use Rattle.hub_exchange.specs.Putting.{WasWritten};
 
-use crate::asking::{All, Buckets, Held, In, Missing, Recorded};
+use crate::asking::{All, Held, In, Missing, Recorded};
 use crate::putting::{Put, Shelved, load_over, refusal_of_shelf};
 use crate::{Extract, LedgerName};
 use association_worker::AtEntry;
-use exchange::{Digests, Holder, HolderFault, Version};
+use exchange::{Digests, Holder, HolderFault, Version, buckets_of};
 use octets::ListOf;
 use operation::{Digest, Digested, Op, Taken};
 use records::RecordedOp;
@@ -208,8 +208,10 @@ impl<
         look(&mut self.pass, &In { version, places })
     }
 
-    fn buckets(&mut self, _alloc: Global, version: Version) -> Result<ListOf<Digest>, HolderFault> {
-        look(&mut self.pass, &Buckets { version })
+    fn buckets(&mut self, alloc: Global, version: Version) -> Result<ListOf<Digest>, HolderFault> {
+        // They are hashed behind the look, for whose end a publish waits.
+        let digests = look(&mut self.pass, &All { version })?;
+        Ok(buckets_of(alloc, &digests)?)
     }
 
     fn missing(&mut self, _alloc: Global, digests: &Digests) -> Result<Digests, HolderFault> {
