@@ -38,6 +38,6 @@ IsBitsText text bits = IsNumeral 10 text × (bits ≡ digits_value 10 text) × (
 
 -- an address alone, of which all bits count; or an address, and behind the first slash how many bits
 abbrev pub IsNetworkText : List ℕ → Network → Type 0
-IsNetworkText text network = (IsIpv4Text text network.address × (network.bits ≡ 32))
+IsNetworkText text network = (¬ (HasSlash text) × IsIpv4Text text network.address × (network.bits ≡ 32))
     ⊎ (HasSlash text × IsIpv4Text (before_first (λ b. b == 47) text) network.address
     × IsBitsText (without_leading_plus (after_first (λ b. b == 47) text)) network.bits)

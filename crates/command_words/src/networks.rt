@@ -1,8 +1,9 @@
 //! IPv4 networks, by which a listener tells who may come.
 
-ghost use Rattle.std.specs.Prelude.{◌≡◌, IfSome};
+ghost use Rattle.std.specs.Prelude.{◌≡◌, ℕ, IfSome, IsNone};
+ghost use Rattle.std.specs.Str.Parse.{without_leading_plus};
 ghost use Rattle.std.specs.List.{list_any};
-ghost use Rattle.command_words.specs.Networks.{IsNetworkText, has_address, may_come};
+ghost use Rattle.command_words.specs.Networks.{IsBitsText, IsNetworkText, has_address, may_come};
 
 use std::net::{Ipv4Addr, SocketAddr};
 
@@ -43,10 +44,23 @@ pub fn is_allowed(networks: &[Network], peer: SocketAddr) -> bool
     }
 }
 
+/// How many bits are in common, 0 to 32, as it is written.
+fn read_bits(text: &str) -> Option<u8>
+    ensures read { IfSome result (IsBitsText (without_leading_plus text.now)) }
+    ensures none { IsNone result → (bits : ℕ) →
+        ¬ (IsBitsText (without_leading_plus text.now) bits) }
+{
+    match text.parse::<u8>() {
+        Ok(bits) if bits <= 32 => Some(bits),
+        _ => None,
+    }
+}
+
 /// A network as it is written: an address, and behind a slash how many bits are in common, 0 to 32;
 /// all are where there is no slash.
 pub fn read_network(text: &str) -> Option<Network>
-    ensures { IfSome result (λ network. IsNetworkText text.now network) }
+    ensures read { IfSome result (IsNetworkText text.now) }
+    ensures none { IsNone result → (network : Network) → ¬ (IsNetworkText text.now network) }
 {
     let Some((address, bits)) = text.split_once('/') else {
         let Ok(address) = text.parse::<Ipv4Addr>() else {
@@ -54,8 +68,11 @@ pub fn read_network(text: &str) -> Option<Network>
         };
         return Some(Network { address, bits: 32 });
     };
-    match (address.parse::<Ipv4Addr>(), bits.parse::<u8>()) {
-        (Ok(address), Ok(bits)) if bits <= 32 => Some(Network { address, bits }),
-        _ => None,
-    }
+    let Ok(address) = address.parse::<Ipv4Addr>() else {
+        return None;
+    };
+    let Some(bits) = read_bits(bits) else {
+        return None;
+    };
+    Some(Network { address, bits })
 }
