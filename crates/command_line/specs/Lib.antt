@@ -1,1 +1,4 @@
+pub mod Found
+pub mod Reading
+pub mod Serving
 pub mod There

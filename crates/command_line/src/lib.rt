@@ -6,10 +6,12 @@ ghost use Rattle.clap.specs.Values.{kind_of};
 ghost use Rattle.command_line.specs.There.{IsWellAsked};
 
 mod commands;
+mod found;
 mod reading;
 mod refusals;
 mod rows;
 mod serve;
+mod serving;
 mod there;
 
 use crate::commands::archive_command;
