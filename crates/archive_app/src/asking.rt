@@ -12,7 +12,7 @@ use site_desk::{
 };
 use site_tables::Row;
 use std::alloc::Global;
-use std::io::{Read, Write};
+use std::io::{ErrorKind, Read, Write};
 use std::net::{Net, TcpListener, TcpStream};
 use std::rt::HostRuntime;
 
@@ -36,8 +36,10 @@ fn answer_on(alloc: Global, wire: &Wire, request: &[u8]) -> Result<Vec<u8>, AskF
     }
     let mut text = Vec::new(alloc);
     let mut reader = Read::take(wire, MOST + 1);
-    if reader.read_to_end(&mut text).is_err() || text.is_empty() {
-        return Err(AskFault::Broken);
+    match reader.read_to_end(&mut text) {
+        Err(error) if error.kind() == ErrorKind::OutOfMemory => return Err(AskFault::Memory),
+        Err(_) | Ok(0) => return Err(AskFault::Broken),
+        Ok(_) => {}
     }
     if text.len() as u64 > MOST {
         return Err(AskFault::TooLong);
@@ -109,7 +111,7 @@ fn rows_at<'a, R: Net<Listener = TcpListener, Stream = TcpStream>>(
     reporting: ReportingAt<'a>,
 ) -> Result<Vec<Row>, Refused<'a>> {
     let mut rows = Vec::new(rt.alloc());
-    for page in 1..MOST_PAGES {
+    for page in 1..=MOST_PAGES {
         let mut told = page_at(rt, net, reporting, page)?;
         let is_last = told.pages <= page || told.rows.is_empty();
         about(reporting.at, rows.append(&mut told.rows))?;

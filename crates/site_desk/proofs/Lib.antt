@@ -5,3 +5,4 @@ pub mod OutcomeLaws
 pub mod RequestLaws
 pub mod SendingLaws
 pub mod TabledLaws
+pub mod WhyLaws

@@ -1,13 +1,16 @@
 -- The rows of a table, and when there are none.
-use Rattle.std.proofs.Common.{◌≡◌, ℕ, List, [], ◌∷◌, Option, Some, None, map, refl, sym, ap, subst, ◌∙◌}
-use Rattle.std.proofs.Common.{IsUtf8, codes}
+use Rattle.std.proofs.Common.{◌≡◌, ℕ, List, [], ◌∷◌, Option, Some, None, Result, Ok, Err, IfErr, map, refl, sym, ap, subst}
+use Rattle.std.proofs.Common.{◌∙◌, IsUtf8, codes}
 use Rattle.std.proofs.lemmas.Option.{none-some, same_Some}
 use Rattle.std.specs.Option.{option_and_then}
 use Rattle.json.specs.Json.{Json, document}
 use Rattle.json.specs.Value.{items_of}
-use Rattle.site_desk.specs.Heard.{HasBody}
+use Rattle.site_desk.specs.declared.ask_fault.AskFault.{AskFault}
+use Rattle.site_desk.specs.declared.ask_fault.AskFault.TheVariants.{Broken, TooLong, NoAnswer, Unready, Memory}
+use Rattle.site_desk.specs.declared.ask_fault.AskFault.TheVariants.{Refused}
+use Rattle.site_desk.specs.Heard.{HasBody, HasStatus}
 use Rattle.site_desk.specs.Tabled.{listed, gathered, place_from, places_in, cells_at, Tells}
-use Rattle.site_desk.specs.Tabled.{IsToldBy, list_in, places_below, rows_at}
+use Rattle.site_desk.specs.Tabled.{IsToldBy, TellsNoRows, TellsNone, list_in, places_below, rows_at}
 
 -- the values of items are those of the list that they are made of
 pub listed_again : (values : List Json) → listed (items_of values) ≡ values
@@ -57,3 +60,14 @@ untold heading text body value only is isnt rows pages it =
     let same : body ≡ it.body = same_Some body it.body (only it.body it.has_body) in
     let alike : it.value ≡ value = same_Some it.value value (sym it.is_document ∙ ap document (sym same) ∙ is) in
     isnt rows pages (subst (λ (v : Json). Tells heading v rows pages) alike it.tells)
+
+-- what a site can tell now it tells, or it is none of a site
+pub none_now : {A : Type 0} (heading : List (List ℕ)) (text : List ℕ) (answer : Result A AskFault)
+    → (HasStatus text 503 → ⊥) → IfErr answer (TellsNoRows heading text) → IfErr answer (TellsNone heading text)
+none_now heading text (Ok told) ready none = tt
+none_now heading text (Err NoAnswer) ready none = (ready, none)
+none_now heading text (Err Unready) ready none = elim none [ ]
+none_now heading text (Err Memory) ready none = tt
+none_now heading text (Err Broken) ready none = elim none [ ]
+none_now heading text (Err TooLong) ready none = elim none [ ]
+none_now heading text (Err (Refused fault)) ready none = elim none [ ]

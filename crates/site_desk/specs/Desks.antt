@@ -1,5 +1,5 @@
 -- What the desk of a running site does.
-use Rattle.std.specs.Prelude.{◌≡◌, ℕ, ◌≤◌, ◌⊎◌, ◌++◌, ◌∷◌, [], max, List, Some, Result, Ok, Err}
+use Rattle.std.specs.Prelude.{◌≡◌, ℕ, ◌≤◌, ◌⊎◌, ◌++◌, ◌∷◌, [], max, List, Some, Result, Ok, Err, IfErr}
 use mathlib.Core.List.{IsPrefix}
 use Rattle.http.specs.declared.request.Request.{Request}
 use Rattle.http_server.specs.declared.response.Response.{Response}
@@ -14,12 +14,13 @@ use Rattle.hub_exchange.specs.Putting.{WasWritten}
 use Rattle.hub_exchange.specs.Onward.{IsOnward}
 use Rattle.site_desk.specs.declared.answer.Made.{Made}
 use Rattle.site_desk.specs.declared.fault.DeskFault.{DeskFault}
-use Rattle.site_desk.specs.declared.fault.DeskFault.TheVariants.{Unshown}
+use Rattle.site_desk.specs.declared.fault.DeskFault.TheVariants.{Memory, Busy, Shelf, Unshown}
 use Rattle.site_desk.specs.declared.words.Words.{Words}
 use Rattle.site_desk.specs.Answers.{answer_of}
-use Rattle.site_desk.specs.Posting.{Says}
+use Rattle.site_desk.specs.Posting.{Says, SaysNone}
 use Rattle.command_words.specs.declared.Change.{Change}
-use Rattle.site_desk.specs.Making.{change_of, next_over}
+use Rattle.command_words.specs.Parts.{bad_part_of}
+use Rattle.site_desk.specs.Making.{change_of, next_over, AsksNone, IsOfPart}
 use Rattle.site_desk.specs.Requests.{posting_of}
 use Rattle.site_desk.specs.Responses.{Responds}
 
@@ -79,10 +80,32 @@ ComesTo opening before request after (Ok made) =
     (change : Change) × Asks request change × Makes opening before change after made
 ComesTo opening before request after (Err fault) = MakesNone opening before (Asks request) after fault
 
+-- what holds up a correction that may be made: memory, workers that do not agree, the shelf, or the hub
+abbrev pub IsHeldUp : DeskFault → Type 0
+IsHeldUp fault = (fault ≡ Memory) ⊎ (fault ≡ Busy) ⊎ (fault ≡ Shelf) ⊎ (fault ≡ Unshown)
+
+-- Why a change of which each part may be is not made: it is held up, or none comes next over what the pass has seen
+-- then, and what the desk had made.
+abbrev pub WhyUnmade : Map → AtDesk → Change → AtDesk → DeskFault → Type 0
+WhyUnmade opening before change after fault = IsHeldUp fault
+    ⊎ (next_over before.site (max (top_counter_of (ops_of (set_of opening after.pass.seen))) before.last) change
+    ≡ Err fault)
+
+-- Why the correction that four words ask for is not made: they ask for none, a part of it may not be, or it is not made.
+abbrev pub WhyRefused : Map → AtDesk → Words → AtDesk → DeskFault → Type 0
+WhyRefused opening before words after fault = AsksNone words fault ⊎ ((change : Change) × (change_of words ≡ Some change)
+    × (IsOfPart (bad_part_of change) fault ⊎ WhyUnmade opening before change after fault))
+
+-- Why none is made of a request: it says no four words, or what these ask for is not made.
+abbrev pub WhyNone : Map → AtDesk → Request (List ℕ) → AtDesk → DeskFault → Type 0
+WhyNone opening before request after fault = SaysNone (posting_of request) fault
+    ⊎ ((words : Words) × Says (posting_of request) words × WhyRefused opening before words after fault)
+
 -- a request is answered with what it comes to, or is refused without words
 pub record AnswersAt (opening : Map) (before : AtDesk) (request : Request (List ℕ)) (response : Response)
     (after : AtDesk) : Type 0 where
   pub outcome : Result Made DeskFault
   pub comes : ComesTo opening before request after outcome
+  pub why : IfErr outcome (WhyNone opening before request after)
   pub goes_on : GoesOn before after
   pub told : Responds (answer_of outcome) response

@@ -22,3 +22,11 @@ pub record HasBody (text body : List ℕ) : Type 0 where
   pub framing : Framing
   pub framed : response_framing Other (status_code head) head.minor (known_of head.fields) ≡ Ok framing
   pub whole : IsTrue (is_whole framing (length body))
+
+-- a text begins with the head of a response, of at most 64 fields, whose status is this (RFC 9112, 4)
+pub record HasStatus (text : List ℕ) (status : ℕ) : Type 0 where
+  pub head : ResponseHead
+  pub body : List ℕ
+  pub reads : ReadsResponse text head body
+  pub few : length head.fields ≤ 64
+  pub is : status_code head ≡ status

@@ -2,7 +2,8 @@
 use Rattle.std.specs.Prelude.{ℕ, List, [], ◌∷◌, Option, Some, None, cond, ⊤}
 use Rattle.octets.specs.Texts.{same}
 use Rattle.site_desk.specs.declared.ask_fault.AskFault.{AskFault}
-use Rattle.site_desk.specs.declared.ask_fault.AskFault.TheVariants.{Broken, TooLong, NoAnswer, Memory, Refused}
+use Rattle.site_desk.specs.declared.ask_fault.AskFault.TheVariants.{Broken, TooLong, NoAnswer, Unready, Memory}
+use Rattle.site_desk.specs.declared.ask_fault.AskFault.TheVariants.{Refused}
 use Rattle.site_desk.specs.declared.fault.DeskFault.{DeskFault}
 use Rattle.site_desk.specs.declared.fault.DeskFault.TheVariants as Fault
 use Rattle.site_desk.specs.Answers.{refusal_line}
@@ -25,5 +26,6 @@ abbrev pub TellsRefusal : List ℕ → AskFault → Type 0
 TellsRefusal text (Refused fault) = HasBody text (refusal_line fault)
 TellsRefusal text NoAnswer = (fault : DeskFault) → ¬ (HasBody text (refusal_line fault))
 TellsRefusal text Memory = ⊤
+TellsRefusal text Unready = ⊥
 TellsRefusal text Broken = ⊥
 TellsRefusal text TooLong = ⊥

@@ -7,8 +7,9 @@ use Rattle.json.specs.Json.{Json, Items, no_items, item, document}
 use Rattle.json.specs.Find.{get, at, as_str, as_number, as_array}
 use Rattle.octets.specs.Texts.{same}
 use Rattle.site_desk.specs.declared.ask_fault.AskFault.{AskFault}
-use Rattle.site_desk.specs.declared.ask_fault.AskFault.TheVariants.{Broken, TooLong, NoAnswer, Memory, Refused}
-use Rattle.site_desk.specs.Heard.{HasBody}
+use Rattle.site_desk.specs.declared.ask_fault.AskFault.TheVariants.{Broken, TooLong, NoAnswer, Unready, Memory}
+use Rattle.site_desk.specs.declared.ask_fault.AskFault.TheVariants.{Refused}
+use Rattle.site_desk.specs.Heard.{HasBody, HasStatus}
 
 -- items as a list
 abbrev pub listed : Items → List Json
@@ -87,8 +88,18 @@ pub record IsToldBy (heading : List (List ℕ)) (text : List ℕ) (rows : List (
   pub tells : Tells heading value rows pages
 
 -- what is told as no answer of a site tells no such rows, or no number of pages
+abbrev pub TellsNoRows : List (List ℕ) → List ℕ → AskFault → Type 0
+TellsNoRows heading text NoAnswer = (rows : List (List (List ℕ))) (pages : ℕ) → ¬ (IsToldBy heading text rows pages)
+TellsNoRows heading text Unready = ⊥
+TellsNoRows heading text Memory = ⊤
+TellsNoRows heading text Broken = ⊥
+TellsNoRows heading text TooLong = ⊥
+TellsNoRows heading text (Refused fault) = ⊥
+
+-- the same, and what the site cannot tell now, and nothing else, has the status of that
 abbrev pub TellsNone : List (List ℕ) → List ℕ → AskFault → Type 0
-TellsNone heading text NoAnswer = (rows : List (List (List ℕ))) (pages : ℕ) → ¬ (IsToldBy heading text rows pages)
+TellsNone heading text Unready = HasStatus text 503
+TellsNone heading text NoAnswer = ¬ (HasStatus text 503) × TellsNoRows heading text NoAnswer
 TellsNone heading text Memory = ⊤
 TellsNone heading text Broken = ⊥
 TellsNone heading text TooLong = ⊥

@@ -13,6 +13,10 @@ pub enum AskFault {
     TooLong,
     #[error("the answer is none of a site")]
     NoAnswer,
+    /// The site cannot tell it now, as where memory is refused or its workers do not agree on what
+    /// it has: status 503 (RFC 9110, section 15.6.4).
+    #[error("the site cannot tell it now")]
+    Unready,
     #[error("there is no memory left")]
     Memory,
     /// The desk made no correction, for this reason.

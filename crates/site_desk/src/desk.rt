@@ -3,6 +3,7 @@
 ghost use Rattle.std.specs.Prelude.{◌≡◌, IfOk, IfErr, Some, MatchResult};
 ghost use Rattle.command_words.specs.declared.Change.{Change};
 ghost use Rattle.site_desk.specs.Desks.{GoesOn, Makes, MakesNone, ComesTo, AnswersAt};
+ghost use Rattle.site_desk.specs.Desks.{WhyUnmade, WhyRefused, WhyNone};
 ghost use Rattle.site_desk.specs.Making.{change_of};
 
 use crate::making::{allowed, change_by, keep, next_over};
@@ -113,6 +114,7 @@ impl<
     fn correct(&mut self, change: Change) -> Result<Made, DeskFault>
         ensures made { MatchResult result (Makes H.opening self.old change self.new)
             (MakesNone H.opening self.old (λ asked. asked ≡ change) self.new) }
+        ensures why { IfErr result (WhyUnmade H.opening self.old change self.new) }
         ensures goes_on { GoesOn self.old self.new }
     {
         let top = top_of(&mut self.pass, self.last)?;
@@ -141,6 +143,7 @@ impl<
             × (change_of words.now ≡ Some change) × Makes H.opening self.old change self.new made) }
         ensures none { IfErr result (MakesNone H.opening self.old
             (λ change. change_of words.now ≡ Some change) self.new) }
+        ensures why { IfErr result (WhyRefused H.opening self.old words.now self.new) }
         ensures goes_on { GoesOn self.old self.new }
     {
         let change = change_by(self.alloc, words)?;
@@ -151,6 +154,7 @@ impl<
     /// Makes the correction that a request asks for.
     fn comes(&mut self, request: &Request<Bytes>) -> Result<Made, DeskFault>
         ensures comes { ComesTo H.opening self.old request.now self.new result }
+        ensures why { IfErr result (WhyNone H.opening self.old request.now self.new) }
         ensures goes_on { GoesOn self.old self.new }
     {
         let posted = posted(request);

@@ -1,8 +1,8 @@
 //! What a running site answers (RFC 9112, sections 4 and 6).
 
-ghost use Rattle.std.specs.Prelude.{◌≡◌, IfSome, List, ℕ, Some};
+ghost use Rattle.std.specs.Prelude.{◌≡◌, ◌↔◌, IfSome, IsTrue, List, ℕ, Some};
 ghost use Rattle.std.specs.Option.{option_copied};
-ghost use Rattle.site_desk.specs.Heard.{is_whole, HasBody};
+ghost use Rattle.site_desk.specs.Heard.{is_whole, HasBody, HasStatus};
 
 use http1::fields::KnownFields;
 use http1::framing::{Framing, MethodKind, response_framing};
@@ -39,4 +39,15 @@ pub fn body_of(text: &[u8]) -> Option<&[u8]>
         return None;
     }
     Some(body)
+}
+
+/// Whether an answer says that the site cannot tell it now (RFC 9110, section 15.6.4).
+pub(crate) fn is_unready(text: &[u8]) -> bool
+    ensures { IsTrue result ↔ HasStatus text.now 503 }
+{
+    let mut spans = [EMPTY_HEADER_SPAN; 64];
+    match parse_response(text, &mut spans) {
+        Ok(Status::Complete(head)) => head.code == 503,
+        _ => false,
+    }
 }

@@ -11,7 +11,8 @@ ghost use Rattle.command_words.specs.Parts.{bad_part_of};
 ghost use Rattle.hub_exchange.specs.Putting.{WasWritten};
 ghost use Rattle.hub_exchange.specs.Onward.{IsOnward};
 ghost use Rattle.site_hub.specs.History.{EndsWith, entry_of};
-ghost use Rattle.site_desk.specs.Making.{change_of, fault_of_part, fault_of_shelf as fault_of_shelf_in};
+ghost use Rattle.site_desk.specs.Making.{change_of, AsksNone, fault_of_part};
+ghost use Rattle.site_desk.specs.Making.{fault_of_shelf as fault_of_shelf_in};
 ghost use Rattle.site_desk.specs.Making.{next_over as next_over_of, IsOfPart};
 
 use crate::{DeskFault, Words};
@@ -27,6 +28,7 @@ use std::sync::{Mutex, Wait};
 /// The change that four words ask for.
 pub(crate) fn change_by(alloc: Global, words: &Words) -> Result<Change, DeskFault>
     ensures ok { IfOk result (λ change. change_of words.now ≡ Some change) }
+    ensures none { IfErr result (AsksNone words.now) }
     ensures fault { IfErr result (λ fault. (fault ≡ NoChange) ⊎ (fault ≡ Memory)) }
 {
     let (Ok(target), Ok(key), Ok(tag), Ok(value)) = (

@@ -7,10 +7,10 @@ ghost use Rattle.json.specs.Value.{value_view, items_view};
 ghost use Rattle.json.specs.Find.{as_str};
 ghost use Rattle.site_desk.specs.Tabled.{is_text, place_from, gathered, list_in, cell_at, cells_at};
 ghost use Rattle.site_desk.specs.Tabled.{places_below, rows_at, CountsPages, Tells, IsToldBy};
-ghost use Rattle.site_desk.specs.Tabled.{TellsNone, IsNumberOf, cell_behind, told_of};
+ghost use Rattle.site_desk.specs.Tabled.{TellsNoRows, TellsNone, IsNumberOf, cell_behind, told_of};
 
 use crate::ask_fault::AskFault;
-use crate::heard::body_of;
+use crate::heard::{body_of, is_unready};
 use json::{Error, Scratch, Value};
 use octets::{ListOf, Octets};
 use std::alloc::{AllocError, Global};
@@ -183,12 +183,11 @@ fn told_by(alloc: Global, heading: &[&str], value: &Value<'_>) -> Result<Option<
 }
 
 /// The rows that an answer tells, which is there in whole, in order, each with the cells below the
-/// names of a heading, and how many pages it tells there are: one where it says none. An answer
-/// whose number of pages is no number is none of a site.
-pub fn page_of(alloc: Global, heading: &[&str], text: &[u8]) -> Result<Told, AskFault>
+/// names of a heading, and how many pages it tells there are: one where it says none.
+fn page_in(alloc: Global, heading: &[&str], text: &[u8]) -> Result<Told, AskFault>
     ensures told { IfOk result (λ told.
         IsToldBy (map (λ name. name.now) heading.now) text.now told.rows.items told.pages) }
-    ensures none { IfErr result (TellsNone (map (λ name. name.now) heading.now) text.now) }
+    ensures none { IfErr result (TellsNoRows (map (λ name. name.now) heading.now) text.now) }
 {
     let Some(body) = body_of(text) else {
         return Err(AskFault::NoAnswer);
@@ -205,6 +204,19 @@ pub fn page_of(alloc: Global, heading: &[&str], text: &[u8]) -> Result<Told, Ask
         None => Err(AskFault::NoAnswer),
         Some(told) => Ok(told),
     }
+}
+
+/// The same. An answer whose number of pages is no number is none of a site; one of status 503 says
+/// that the site cannot tell them now.
+pub fn page_of(alloc: Global, heading: &[&str], text: &[u8]) -> Result<Told, AskFault>
+    ensures told { IfOk result (λ told.
+        IsToldBy (map (λ name. name.now) heading.now) text.now told.rows.items told.pages) }
+    ensures none { IfErr result (TellsNone (map (λ name. name.now) heading.now) text.now) }
+{
+    if is_unready(text) {
+        return Err(AskFault::Unready);
+    }
+    page_in(alloc, heading, text)
 }
 
 /// The second of two cells, where the first is a word.

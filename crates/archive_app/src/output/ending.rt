@@ -233,6 +233,7 @@ fn line_of_ask(fault: AskFault) -> &'static str
         AskFault::NoAnswer => "fault ask 3",
         AskFault::Memory => "fault ask 4",
         AskFault::Refused(_) => "fault ask 5",
+        AskFault::Unready => "fault ask 6",
     }
 }
 

@@ -1,10 +1,12 @@
-use Rattle.std.proofs.Common.{◌≡◌, ◌∙◌, refl, sym, ap, subst, ℕ, List, [], ◌∷◌, ◌++◌}
+use Rattle.std.proofs.Common.{◌≡◌, ◌∙◌, refl, sym, ap, subst, inl, inr, ℕ, List, [], ◌∷◌, ◌++◌}
+use Rattle.std.proofs.lemmas.Result.{err_from_is_err_and}
 use Rattle.operation.specs.declared.op.Op.TheVariants.{Correction as a_correction}
 use Rattle.operation.specs.declared.stamp.Stamp.{Stamp}
 use Rattle.operation.specs.Spelling.{digest_of}
 use Rattle.site_hub.specs.History.{entry_of, EndsWith}
 use Rattle.site_desk.specs.Making.{next_over}
 use Rattle.site_desk.proofs.DeskLaws.{looked_onward}
+use Rattle.site_desk.proofs.WhyLaws.{unlooked, none_next, unkept}
 use Rattle.site_desk.proofs.MakingLaws.{last_rises, told}
 use Rattle.site_desk.proofs.desk.SiteDesk.correct.Goals as goal
 
@@ -51,3 +53,22 @@ returns-clause-made g c = rw (← c.self.view_is) (record {
   counter = ap (λ (s : Stamp). s.counter) c.stamp-stamp.ensures.value;
   site = ap (λ (s : Stamp). s.site) c.stamp-stamp.ensures.value;
 })
+
+-- Its look was refused,
+pub returns-in_err-top-clause-why : goal.returns-in_err-top-clause-why
+returns-in_err-top-clause-why g c =
+    let p = err_from_is_err_and c.from_residual.result c.from_residual.ensures.1 in
+    rw (← c.self.view_is) (rw p.1 (inl (rw p.2 (unlooked _ c.in_err-top.ensures.fault))))
+
+-- or none comes next,
+pub returns-in_err-made-clause-why : goal.returns-in_err-made-clause-why
+returns-in_err-made-clause-why g c =
+    let it = c.from_residual-in_err-made in let p = err_from_is_err_and it.result it.ensures.1 in
+    rw (← c.self.view_is) (rw p.1 (inr (none_next c.self.inside.site c.in_ok-top.top _ c.args.change p.0 _
+    c.in_ok-top.ensures.top p.2 c.in_err-made.ensures)))
+
+-- or it is not kept, or not shown.
+pub returns-in_err-keep-clause-why : goal.returns-in_err-keep-clause-why
+returns-in_err-keep-clause-why g c =
+    let it = c.from_residual-in_err-keep in let p = err_from_is_err_and it.result it.ensures.1 in
+    rw (← c.self.view_is) (rw p.1 (inl (rw p.2 (unkept _ _ c.in_err-keep.ensures.refused))))
