@@ -1,11 +1,9 @@
 -- Laws of calls, one behind another.
-use Rattle.std.proofs.Common.{◌≡◌, List, [], ◌∷◌, ◌++◌, Option, Some, None, Bool, true, false}
+use Rattle.std.proofs.Common.{◌≡◌, ℕ, suc, List, [], ◌∷◌, ◌++◌, Option, Some, None, Bool, true, false}
 use Rattle.std.proofs.Common.{refl, sym, ap, subst, ◌∙◌, append_assoc}
-use Rattle.std.specs.List.{flat_map}
-use Rattle.std.proofs.lemmas.List.{append-nil, flat_map_more}
+use Rattle.std.proofs.lemmas.List.{append-nil}
 use Rattle.std.specs.declared.time.Duration.{Duration}
-use Rattle.archive_server.specs.declared.calling.Called.{Called}
-use Rattle.archive_server.specs.Calling.{Turn, Calls, Waits, Went, round, last_round, CallsAgain}
+use Rattle.archive_server.specs.Calling.{Turn, Calls, Waits, Went, round, rounds, CallsAgain}
 
 -- nothing was done
 pub went_none : (a : Option (List Turn)) → Went a a []
@@ -19,33 +17,24 @@ went_on (Some turns) b c xs ys first behind =
     subst (λ (o : Option (List Turn)). Went o c ys) first behind
     ∙ ap (λ (t : List Turn). Some t) (append_assoc turns xs ys)
 
--- a call, and a wait behind it
-went_round : (a b c : Option (List Turn)) (every pause : Duration) (called : Called) (served : Bool)
-    → Went a b (Calls called ∷ []) → Went b c (Waits pause served ∷ []) → pause ≡ every
-    → Went a c (Calls called ∷ (Waits every served ∷ []))
-went_round a b c every pause called served call wait so =
-    subst (λ (time : Duration). Went a c (Calls called ∷ (Waits time served ∷ []))) so
-    (went_on a b c (Calls called ∷ []) (Waits pause served ∷ []) call wait)
+-- so many calls, and another, with the wait behind it
+went_round : (start a b c : Option (List Turn)) (every : Duration) (calls : ℕ) (served is : Bool)
+    → Went start a (rounds every calls) → Went a b (Calls ∷ []) → Went b c (Waits every served ∷ []) → served ≡ is
+    → Went start c (rounds every calls ++ round every is)
+went_round start a b c every calls served is before call wait so =
+    subst (λ (s : Bool). Went start c (rounds every calls ++ round every s)) so
+    (went_on start a c (rounds every calls) (round every served) before
+    (went_on a b c (Calls ∷ []) (Waits every served ∷ []) call wait))
 
 -- one more call, behind which somebody serves
-pub one_more : (start a b c : Option (List Turn)) (every pause : Duration) (calls : List Called) (called : Called)
-    (served : Bool) → Went start a (flat_map (round every) calls) → Went a b (Calls called ∷ [])
-    → Went b c (Waits pause served ∷ []) → pause ≡ every → served ≡ true
-    → Went start c (flat_map (round every) (calls ++ called ∷ []))
-one_more start a b c every pause calls called served before call wait so serves =
-    subst (λ (turns : List Turn). Went start c turns) (flat_map_more (round every) [] calls called)
-    (went_on start a c (flat_map (round every) calls) (round every called) before
-    (subst (λ (s : Bool). Went a c (Calls called ∷ (Waits every s ∷ []))) serves
-    (went_round a b c every pause called served call wait so)))
+pub one_more : (start a b c : Option (List Turn)) (every : Duration) (calls : ℕ) (served : Bool)
+    → Went start a (rounds every calls) → Went a b (Calls ∷ []) → Went b c (Waits every served ∷ [])
+    → served ≡ true → Went start c (rounds every (suc calls))
+one_more start a b c every calls served = went_round start a b c every calls served true
 
 -- the last one, behind which nobody does
-pub the_last : (start a b c : Option (List Turn)) (every pause : Duration) (calls : List Called) (called : Called)
-    (served : Bool) → Went start a (flat_map (round every) calls) → Went a b (Calls called ∷ [])
-    → Went b c (Waits pause served ∷ []) → pause ≡ every → served ≡ false → CallsAgain every start c
-the_last start a b c every pause calls called served before call wait so ends = (
-  calls,
-  called,
-  went_on start a c (flat_map (round every) calls) (last_round every called) before
-      (subst (λ (s : Bool). Went a c (Calls called ∷ (Waits every s ∷ []))) ends
-      (went_round a b c every pause called served call wait so)),
-)
+pub the_last : (start a b c : Option (List Turn)) (every : Duration) (calls : ℕ) (served : Bool)
+    → Went start a (rounds every calls) → Went a b (Calls ∷ []) → Went b c (Waits every served ∷ [])
+    → served ≡ false → CallsAgain every start c
+the_last start a b c every calls served before call wait so =
+    (calls, went_round start a b c every calls served false before call wait so)

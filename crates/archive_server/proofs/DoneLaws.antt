@@ -1,6 +1,5 @@
 -- Laws of associations, exchanges and responses that came to something.
-use Rattle.std.proofs.Common.{◌≡◌, ℕ, Bool, List, Option, Some, None, Result, Ok, Err, IfOk, IfErr, IfSome, IsTrue}
-use Rattle.std.proofs.Common.{OnErr, sym, ◌∙◌}
+use Rattle.std.proofs.Common.{ℕ, List, Option, Result, Ok, Err, IfOk, IfErr, OnErr}
 use Rattle.site_state.specs.Site.{Map}
 use Rattle.site_hub.specs.Hub.{Seat}
 use Rattle.ul_state.specs.declared.titles.Title.{Title}
@@ -9,14 +8,10 @@ use Rattle.association_run.specs.declared.end.End.{End}
 use Rattle.association_run.specs.declared.fault.RunFault.{RunFault}
 use Rattle.association_run.specs.Output.{Output, FrontOfOutput}
 use Rattle.association_run.specs.Parts.{Sides}
-use Rattle.dimse.specs.Command.{Spells}
-use Rattle.dimse.specs.declared.command.Command.{Command}
 use Rattle.exchange.specs.declared.fault.ExchangeFault.{ExchangeFault}
 use Rattle.exchange.specs.declared.role.Role.{Role}
 use Rattle.exchange.specs.declared.role.Ended.{Ended}
 use Rattle.exchange.specs.Run.{Ends, Exchanged, EndsEarly}
-use Rattle.archive_server.specs.declared.answers.RefusedStore.{RefusedStore}
-use Rattle.archive_server.specs.Answers.{refusal_of, IsRefusalIn, is_row_of, IsRowIn}
 use Rattle.archive_server.specs.Done.{seen_by, ops_seen, own_of, Attends, Converses}
 
 -- an association that ended, or was broken off
@@ -33,13 +28,3 @@ pub converses_as : (opening : Map) (role : Role) (from to : Ends Seat) (ended : 
     → IfErr ended (EndsEarly (seen_by opening) (λ _. ⊥) role from to) → Converses opening role from to ended
 converses_as opening role from to (Ok ended) ok err = ok
 converses_as opening role from to (Err fault) ok err = err
-
--- what a command says that a text spells
-pub refusal_in : (text : List ℕ) (command : Command) (refused : Option RefusedStore) → Spells text command
-    → refused ≡ refusal_of command → IfSome refused (IsRefusalIn text)
-refusal_in text command None spells is = tt
-refusal_in text command (Some refused) spells is = (command, spells, sym is)
-
-pub row_in : (text : List ℕ) (command : Command) (is : Bool) → Spells text command → is ≡ is_row_of command
-    → IsTrue is → IsRowIn text
-row_in text command is spells same holds = (command, spells, sym same ∙ holds)

@@ -1,11 +1,9 @@
 -- Which stores were refused, and which rows queries were answered with, as their responses say (PS3.7, 9.3.1.2 and
 -- 9.3.2.2).
-use Rattle.std.specs.Prelude.{◌≡◌, ℕ, List, Bool, false, IsTrue, ◌==◌, ◌&&◌, ◌||◌, not, Option, Some, None}
-use Rattle.std.specs.Prelude.{if◌then◌else◌}
+use Rattle.std.specs.Prelude.{ℕ, Bool, false, ◌==◌, ◌&&◌, ◌||◌, not, Option, Some, None, if◌then◌else◌}
 use Rattle.dictionary.specs.declared.commands.TheConstants.{C_FIND_RSP, C_STORE_RSP}
 use Rattle.dictionary.specs.declared.statuses.TheConstants.{STATUS_SUCCESS, STATUS_PENDING}
 use Rattle.dictionary.specs.declared.statuses.TheConstants.{STATUS_PENDING_WITHOUT_OPTIONAL_KEYS}
-use Rattle.dimse.specs.Command.{Spells}
 use Rattle.dimse.specs.declared.command.Command.{Command}
 use Rattle.archive_server.specs.declared.answers.RefusedStore.{RefusedStore}
 
@@ -20,10 +18,6 @@ refused_with command (Some status) =
 abbrev pub refusal_of : Command → Option RefusedStore
 refusal_of command = refused_with command command.status
 
--- The text spells a command that says so.
-abbrev pub IsRefusalIn : List ℕ → RefusedStore → Type 0
-IsRefusalIn text refused = (command : Command) × Spells text command × (refusal_of command ≡ Some refused)
-
 -- a status with which a row comes (PS3.4, C.4.1.1.4)
 abbrev pub is_pending_status : ℕ → Bool
 is_pending_status status = (status == STATUS_PENDING) || (status == STATUS_PENDING_WITHOUT_OPTIONAL_KEYS)
@@ -35,7 +29,3 @@ is_row_with command (Some status) = (command.field == C_FIND_RSP) && is_pending_
 
 abbrev pub is_row_of : Command → Bool
 is_row_of command = is_row_with command command.status
-
--- The text spells a command that is one.
-abbrev pub IsRowIn : List ℕ → Type 0
-IsRowIn text = (command : Command) × Spells text command × IsTrue (is_row_of command)

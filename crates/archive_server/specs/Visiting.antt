@@ -1,5 +1,7 @@
--- How long a page was made.
-use Rattle.std.specs.Prelude.{◌-◌, ℕ, Option, Some, None}
+-- How long is waited for who asks for a page, and how long a page was made.
+use Rattle.std.specs.Prelude.{◌-◌, ◌*◌, ◌/◌, ℕ, min, Option, Some, None}
+use Rattle.core.specs.Duration.{as_nanos}
+use Rattle.std.specs.declared.time.Duration.{Duration}
 use Rattle.std.specs.Time.{instant_nanos}
 use Rattle.std.specs.declared.time.Instant.{Instant}
 
@@ -8,3 +10,8 @@ abbrev pub nanos_between : Option Instant → Option Instant → ℕ
 nanos_between (Some asked) (Some told) = instant_nanos told - instant_nanos asked
 nanos_between (Some asked) None = 0
 nanos_between None told = 0
+
+-- how many turns of a quarter of a second a wait of so many seconds has, or one without an end: 120 at most
+abbrev pub turns_of : Option Duration → ℕ
+turns_of None = 120
+turns_of (Some idle) = min (as_nanos idle / 1_000_000_000 * 4) 120

@@ -2,10 +2,8 @@
 //! read off the bytes that are written: command sets are put together of presentation data values
 //! (PS3.8, sections 9.3.5 and E.2). Each refused store is told once its response is whole.
 
-ghost use Rattle.std.specs.Prelude.{◌≡◌, ◌<◌, ◌≤◌, IfSome, IsTrue, Some, length};
-ghost use Rattle.dimse.specs.Command.{Spells};
-ghost use Rattle.dimse.specs.declared.command.Command.{Command};
-ghost use Rattle.archive_server.specs.Answers.{refusal_of, IsRefusalIn, is_pending_status, is_row_of, IsRowIn};
+ghost use Rattle.std.specs.Prelude.{◌≡◌, ◌<◌, ◌≤◌, length};
+ghost use Rattle.archive_server.specs.Answers.{refusal_of, is_pending_status, is_row_of};
 
 use crate::ends::Hears;
 use crate::journal::{Whence, tell_refused_store};
@@ -66,16 +64,6 @@ fn refused_by(command: Command) -> Option<RefusedStore>
     }
 }
 
-/// What a command set says, likewise. It says nothing where memory is refused.
-fn refused_in(alloc: Global, text: &[u8]) -> Option<RefusedStore>
-    ensures only { IfSome result (IsRefusalIn text.now) }
-{
-    match read_command(alloc, text) {
-        Ok(command) => refused_by(command),
-        Err(_fault) => None,
-    }
-}
-
 /// Whether it is a status with which a row comes (PS3.4, section C.4.1.1.4).
 fn is_pending(status: u16) -> bool
     ensures { result ≡ is_pending_status status }
@@ -90,16 +78,6 @@ fn is_row(command: &Command) -> bool
     match command.status {
         Some(status) => command.field == C_FIND_RSP && is_pending(status),
         None => false,
-    }
-}
-
-/// Whether a command set is one. It is none where memory is refused.
-fn is_row_in(alloc: Global, text: &[u8]) -> bool
-    ensures only { IsTrue result → IsRowIn text.now }
-{
-    match read_command(alloc, text) {
-        Ok(command) => is_row(&command),
-        Err(_fault) => false,
     }
 }
 
@@ -154,25 +132,28 @@ impl<'a, S: Clock + Log> Answers<'a, S> {
         length.saturating_sub(COUNTED)
     }
 
-    /// Tells of a command set, where lines are asked for.
-    fn tell(&self) {
+    /// Tells of a command, where lines are asked for.
+    fn tell(&self, command: Command) {
         if !self.manner.is_verbose {
             return;
         }
-        if let Some(refused) = refused_in(self.alloc, self.text.as_slice()) {
+        if let Some(refused) = refused_by(command) {
             tell_refused_store(self.rt, self.peer, &refused);
         }
     }
 
-    /// Counts a command set once its last fragment came, and tells of it.
+    /// Counts a command once the last fragment of its set came, and tells of it. Where memory is
+    /// refused to read it, it is let go.
     fn close(&mut self) {
         if !self.is_of(COMMAND) || !self.is_of(LAST) {
             return;
         }
-        if is_row_in(self.alloc, self.text.as_slice()) {
-            self.rows = self.rows.saturating_add(1);
+        if let Ok(command) = read_command(self.alloc, self.text.as_slice()) {
+            if is_row(&command) {
+                self.rows = self.rows.saturating_add(1);
+            }
+            self.tell(command);
         }
-        self.tell();
         self.text.clear();
     }
 

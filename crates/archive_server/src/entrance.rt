@@ -3,11 +3,16 @@
 ghost use Rattle.std.specs.Prelude.{IfOk};
 ghost use Rattle.archive_server.specs.Entering.{IsAsAllowed};
 
+use crate::journal::tell_not_accepted;
+use crate::manner::Manner;
+use crate::visit::turn;
 use crate::wire::Wire;
 use command_words::{Network, is_allowed};
+use log::Log;
 use std::io;
 use std::net::{SocketAddr, TcpListener};
-use std::time::Duration;
+use std::thread::sleep;
+use std::time::{Clock, Duration};
 
 /// A listener, and the networks from which peers may come. A connection from elsewhere is closed
 /// before a byte of it is read. Where no network is named, each peer may come.
@@ -35,4 +40,13 @@ pub(crate) fn accept_from(entrance: Entrance<'_>, idle: Option<Duration>) -> io:
         return Ok(Entered::LetIn(Wire::new(stream, idle)?, peer));
     }
     Ok(Entered::TurnedAway(peer))
+}
+
+/// Tells of an accept that failed, and rests behind it: what it failed for, as want of file
+/// handles, may last.
+pub(crate) fn rest_behind_accept<S: Clock + Log>(rt: &S, manner: Manner<'_>, error: &io::Error) {
+    tell_not_accepted(rt, manner, error);
+    if !manner.is_ended() {
+        sleep(rt, turn());
+    }
 }

@@ -8,7 +8,7 @@ use crate::asking::Asking;
 use crate::clerk::Clerk;
 use crate::conversing::{Conversed, serve_exchange};
 use crate::done::Done;
-use crate::entrance::{Entered, Entrance, accept_from};
+use crate::entrance::{Entered, Entrance, accept_from, rest_behind_accept};
 use crate::journal::{Whence, tell_exchange, tell_turned_away};
 use crate::message::{Reach, Request};
 use crate::refusing::Telling;
@@ -126,7 +126,10 @@ fn next_exchange<H: HubName, T: Shows<H>, R: Wait + Drop, S: Wait + Clock + Log,
             tell_turned_away(hall.archive.rt, hall.manner, peer);
             done.with_turned_away(entrance, peer)
         }
-        Err(_error) => done.with_none(hall.manner.is_ended()),
+        Err(error) => {
+            rest_behind_accept(hall.archive.rt, hall.manner, &error);
+            done.with_none(hall.manner.is_ended())
+        }
     }
 }
 

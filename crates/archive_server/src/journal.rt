@@ -1,6 +1,5 @@
 //! The lines of a server on standard error: one for each association and each exchange where they
-//! are asked for, and always one for an accept that failed, but for one of an exchange, or where the
-//! archive wanted memory.
+//! are asked for, and always one for an accept that failed, or where the archive wanted memory.
 //!
 //! What a peer sent is shown as printable ASCII, so that no peer makes a line of its own. A line
 //! that standard error refuses is dropped.

@@ -4,7 +4,7 @@ ghost use Rattle.std.specs.Prelude.{None};
 ghost use Rattle.archive_server.specs.Calling.{CallsAgain};
 ghost use Rattle.archive_server.specs.Serving.{HasGoneOn};
 
-use crate::calling::{Called, Pauses, pause_behind};
+use crate::calling::Pauses;
 use crate::clerk::Clerk;
 use crate::done::Done;
 use crate::exchanging::exchange_over;
@@ -13,12 +13,9 @@ use crate::message::{Reach, Request};
 use crate::wire::Wire;
 use crate::worker::Hall;
 use crossbeam_channel::{Receiver, RecvTimeoutError, Sender};
-use exchange::{Ended, ExchangeFault};
 use hub_exchange::LedgerName;
 use log::Log;
 use site_hub::{HubName, Shows};
-use std::io;
-use std::io::ErrorKind;
 use std::net::{Net, TcpListener, TcpStream};
 use std::sync::Wait;
 use std::time::{Clock, Duration};
@@ -29,24 +26,6 @@ pub struct Peer<'a> {
     /// An IPv4 address, a colon and a port.
     pub address: &'a str,
     pub every: Duration,
-}
-
-/// What came of a call that was answered.
-fn called_as(ended: Result<Ended, ExchangeFault>, wire: &Wire) -> Called {
-    match ended {
-        Ok(_ended) => Called::Met,
-        Err(_fault) if wire.is_silent() => Called::Hung,
-        Err(_fault) => Called::BrokenOff,
-    }
-}
-
-/// What came of one that was not.
-fn uncalled_as(error: &io::Error) -> Called {
-    if error.kind() == ErrorKind::TimedOut {
-        Called::Unanswered
-    } else {
-        Called::Refused
-    }
 }
 
 /// Calls a peer once. A call that is refused and an exchange that is broken off are made good by
@@ -62,19 +41,19 @@ fn meet<
     address: &str,
     to: &Sender<Request<N>>,
     clerk: Clerk<H, N>,
-) -> (Clerk<H, N>, Called)
-    ensures onward { HasGoneOn clerk result.0 }
+) -> Clerk<H, N>
+    ensures onward { HasGoneOn clerk result }
 {
     match Wire::to(hall.archive.rt, address, hall.manner.idle) {
         Ok(wire) => {
             let (clerk, ended) = exchange_over(hall, to, &wire, clerk);
             hall.board.called(hall.archive.rt, address, ended);
-            (clerk, called_as(ended, &wire))
+            clerk
         }
         Err(error) => {
             hall.board.unreached(hall.archive.rt, address);
             tell_unreached(hall.archive.rt, hall.manner, address, error);
-            (clerk, uncalled_as(&error))
+            clerk
         }
     }
 }
@@ -89,7 +68,7 @@ pub(crate) struct Still<'a, S: Wait + Clock> {
 impl<'a, S: Wait + Clock> Pauses for Still<'a, S> {
     ghost turns = { λ _. None };
 
-    fn note(&mut self, _called: Called) {}
+    fn note(&mut self) {}
 
     fn is_served_after(&mut self, time: Duration) -> bool {
         match self.ended.recv_timeout(self.rt, time) {
@@ -120,11 +99,9 @@ fn call_again<
 {
     let mut onward = clerk;
     for _ in hall.archive.rt.forever() {
-        let (next, called) = meet(hall, address, to, onward);
-        onward = next;
-        pauses.note(called);
-        let pause = pause_behind(called, every);
-        if !pauses.is_served_after(pause) {
+        onward = meet(hall, address, to, onward);
+        pauses.note();
+        if !pauses.is_served_after(every) {
             return onward;
         }
     }

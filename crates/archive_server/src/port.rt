@@ -23,6 +23,7 @@ use hub_exchange::{Extract, LedgerName, Put, Shelved};
 use log::Log;
 use octets::ListOf;
 use operation::{Content, ContentRecord, Digested, Op, Taken};
+use records::RecordedOp;
 use site_hub::{HubName, Keeper, Pass, Shows};
 use site_pages::Tally;
 use std::alloc::Global;
@@ -121,21 +122,19 @@ fn load_over<N: LedgerName, P: Put<N>, S: Clock + Log>(
 /// Lets the hub take the record of what the shelf keeps.
 fn publish<H: HubName, T: Shows<H>, R: Wait + Drop, S: Wait, N: LedgerName, E: AtEntry>(
     hub: &mut HubPort<'_, H, T, R, S, E>,
-    op: &Digested,
+    recorded: RecordedOp,
     shelved: &Shelved<N>,
 ) -> Result<Taken, PortFault>
-    requires { shelved.now.digest ≡ digest_of op.now }
+    requires { shelved.now.digest ≡ digest_of recorded }
     ensures stores { Stores (λ (s : Seat). ops_of (set_of H.opening s.seen))
-        (λ (s : Seat). s.mine) hub.old (op_in op.now) result hub.new }
+        (λ (s : Seat). s.mine) hub.old recorded result hub.new }
     ensures refused { OnErr result (hub.new.seen ≡ hub.old.seen) }
     ensures own { result ≢ Err PortFault.Shelf }
     ensures busy { result ≡ Err PortFault.Busy → Rose hub.old.refused hub.new.refused }
     ensures onward { IsOnward (WasWritten shelved.now.extract) hub.old hub.new }
 {
-    match hub.pass().record(op) {
-        Ok(recorded) => hub.take(recorded),
-        Err(_refused) => Err(PortFault::Memory),
-    }
+    let _ = &shelved.digest;
+    hub.take(recorded)
 }
 
 impl<
@@ -221,10 +220,16 @@ impl<
         ensures later { IsLater self.old self.new }
     {
         let op = Digested::of(Op::Content(content));
+        // Where memory is refused for its record, nothing is put.
+        let Ok(recorded) = self.hub.pass().record(&op) else {
+            return self
+                .tally
+                .stored(told(self.rt, "store", Err(PortFault::Memory)));
+        };
         let mut shelf = *self.shelf;
         match shelf.put(&op) {
             Ok(shelved) => {
-                let taken = publish(&mut self.hub, &op, &shelved);
+                let taken = publish(&mut self.hub, recorded, &shelved);
                 self.extract.learn(&shelved.extract);
                 self.tally.stored(told(self.rt, "store", taken))
             }

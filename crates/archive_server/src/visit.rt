@@ -1,9 +1,9 @@
 //! Who came for a page, as a reader and as a writer: it is waited for in short turns, and between
 //! these it is seen whether anybody still serves.
 
-ghost use Rattle.std.specs.Prelude.{◌≡◌, ◌≤◌, ◌*◌, min};
+ghost use Rattle.std.specs.Prelude.{◌≡◌, ◌*◌, min};
 ghost use Rattle.core.specs.Duration.{as_nanos};
-ghost use Rattle.archive_server.specs.Visiting.{nanos_between};
+ghost use Rattle.archive_server.specs.Visiting.{nanos_between, turns_of};
 
 use crate::wire::{Wire, is_cut_off};
 use crossbeam_channel::{Receiver, TryRecvError};
@@ -34,7 +34,7 @@ pub(crate) fn turn() -> Duration {
 
 /// How many turns a wait of so long has, or one without an end.
 pub(crate) fn turns_in(idle: Option<Duration>) -> u64
-    ensures most { result ≤ 120 }
+    ensures turns { result ≡ turns_of idle }
 {
     match idle {
         None => MOST_TURNS,

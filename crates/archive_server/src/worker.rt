@@ -10,12 +10,12 @@ use crate::attending::Archive;
 use crate::board::Board;
 use crate::clerk::Clerk;
 use crate::done::Done;
-use crate::entrance::{Entered, Entrance, accept_from};
+use crate::entrance::{Entered, Entrance, accept_from, rest_behind_accept};
 use crate::fault::ServeFault;
 use crate::hashing::Hashers;
 use crate::health::Health;
 use crate::heard::{Heard, Said};
-use crate::journal::{Finish, Whence, tell_association, tell_not_accepted, tell_turned_away};
+use crate::journal::{Finish, Whence, tell_association, tell_turned_away};
 use crate::manner::Manner;
 use crate::message::{Reach, Request};
 use crate::wire::Wire;
@@ -159,7 +159,7 @@ fn next<H: HubName, T: Shows<H>, R: Wait + Drop, S: Wait + Clock + Log, N: Ledge
             done.with_turned_away(hall.entrance, peer)
         }
         Err(error) => {
-            tell_not_accepted(hall.archive.rt, hall.manner, &error);
+            rest_behind_accept(hall.archive.rt, hall.manner, &error);
             done.with_none(hall.manner.is_ended())
         }
     }

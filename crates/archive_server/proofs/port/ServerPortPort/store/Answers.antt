@@ -1,24 +1,57 @@
-use Rattle.std.proofs.Common.{◌≡◌, ◌∙◌, inl, subst, rules}
+use Rattle.std.proofs.Common.{◌≡◌, ◌∙◌, inl, inr, refl, ap, subst, rules}
 use Rattle.operation.specs.declared.op.Op.{Op}
 use Rattle.operation.specs.declared.op.Op.TheVariants.{Content as a_content}
+use Rattle.records.specs.StandIn.{op_in}
+use Rattle.op_shelf.specs.declared.fault.ShelfFault.TheVariants.{Memory}
 use Rattle.site_hub.proofs.Laters.{later_same}
-use Rattle.archive_server.proofs.OnwardLaws.{onward_learned}
+use Rattle.archive_server.proofs.OnwardLaws.{onward_learned, refused_as}
 use Rattle.archive_server.proofs.RefusingLaws.{hub_refused}
 use Rattle.archive_server.proofs.port.ServerPortPort.store.Goals as goal
 
 -- The pass goes on from what it was at the store, and so from what it was at entry.
-pub invariant_of-self : goal.invariant_of-self
-invariant_of-self g c = onward_learned _ _ _ _ _ _ c.learn.ensures.this c.learn.ensures.that c.self.invariant
+pub invariant_of-self-in-Ok-put : goal.invariant_of-self-in-Ok-put
+invariant_of-self-in-Ok-put g c = onward_learned _ _ _ _ _ _ c.learn.ensures.this c.learn.ensures.that c.self.invariant
     c.publish-taken.ensures.onward
+
+-- Where memory was refused for the record all stays:
+pub returns-in_default-clause-stores : goal.returns-in_default-clause-stores
+returns-in_default-clause-stores g c =
+    rw (← c.self.view_is) (rw (c.stored.ensures.same ∙ c.told.ensures) (refused_as _ _ _ _ Memory))
+
+-- what the pass has seen,
+pub returns-in_default-clause-refused : goal.returns-in_default-clause-refused
+returns-in_default-clause-refused g c =
+    rw (← c.self.view_is) (rw (c.stored.ensures.same ∙ c.told.ensures) refl)
+
+-- of which the shelf was not asked,
+pub returns-in_default-clause-why : goal.returns-in_default-clause-why
+returns-in_default-clause-why g c =
+    rw (← c.self.view_is) (rw (c.stored.ensures.same ∙ c.told.ensures) (inr (record {
+      own = λ e. absurd cc;
+      busy = λ e. absurd cc;
+    })))
+
+-- and the pass.
+pub returns-in_default-clause-later : goal.returns-in_default-clause-later
+returns-in_default-clause-later g c = later_same _ _ (search rules)
+
+-- What the shelf has kept the hub takes for the record.
+pub returns-in-Ok-put-clause-stores : goal.returns-in-Ok-put-clause-stores
+returns-in-Ok-put-clause-stores g c =
+    let same : c.of-op.result ≡ a_content c.args.content = search rules in
+    let stands = c.in-Ok.ensures.stands ∙ ap op_in same in
+    rw (← c.self.view_is) (rw (c.stored-in-Ok-put.ensures.same ∙ c.told-in-Ok-put.ensures)
+    (rw stands at c.publish-taken.ensures.stores))
+
+-- What the shelf has kept only the hub refuses.
+pub returns-in-Ok-put-clause-why : goal.returns-in-Ok-put-clause-why
+returns-in-Ok-put-clause-why g c =
+    rw (← c.self.view_is) (rw (c.stored-in-Ok-put.ensures.same ∙ c.told-in-Ok-put.ensures)
+    (hub_refused g.P.Put.refuses _ _ _ c.publish-taken.result c.publish-taken.ensures.own c.publish-taken.ensures.busy))
 
 -- What the shelf refused leaves the pass as it was.
 pub returns-clause-later : goal.returns-clause-later
 returns-clause-later g c = later_same _ _ (search rules)
-
--- What the shelf has kept only the hub refuses.
-pub returns-in-Ok-clause-why : goal.returns-in-Ok-clause-why
-returns-in-Ok-clause-why g c = rw (← c.self.view_is) (rw (c.stored.ensures.same ∙ c.told.ensures)
-    (hub_refused g.P.Put.refuses _ _ _ c.publish-taken.result c.publish-taken.ensures.own c.publish-taken.ensures.busy))
 
 -- The shelf refused it.
 pub returns-clause-why : goal.returns-clause-why
