@@ -2,4 +2,5 @@ pub mod Causes
 pub mod Ending
 pub mod Lines
 pub mod Notes
+pub mod Serves
 pub mod Verified

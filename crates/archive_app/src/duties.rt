@@ -1,6 +1,6 @@
 //! What a server does beside its associations, and how many passes it takes.
 
-ghost use Rattle.std.specs.Prelude.{◌≡◌, ◌≤◌, ◌<◌, ◌+◌, IfSome};
+ghost use Rattle.std.specs.Prelude.{◌≡◌, ◌≤◌, ◌<◌, ◌+◌, IfSome, vec_len};
 ghost use Rattle.archive_server.specs.Serving.{others_in, serving_in};
 ghost use Rattle.command_words.specs.Words.{HasPlaces, named_or, threads_at as threads_at_one};
 ghost use Rattle.command_words.specs.declared.TheConstants.{LOOPBACK};
@@ -13,6 +13,9 @@ use command_words::Serving;
 fn exchanging_of<'a>(listening: &'a Listening, serving: &'a Serving<'_>) -> Option<Exchanging<'a>>
     ensures networks { IfSome result (λ exchanging. exchanging.entrance.allowed.now
         ≡ serving.now.exchange_allowed.items) }
+    ensures rounds { IfSome result (λ exchanging. exchanging.rounds ≡ serving.now.rounds) }
+    ensures workers { IfSome result (λ exchanging.
+        exchanging.workers ≡ serving.now.exchange_workers) }
 {
     match &listening.exchanges {
         None => None,
@@ -119,7 +122,10 @@ pub fn workers_of(passes: usize, duties: &Duties<'_>) -> usize
 /// A pass for each worker, for each worker of exchanges, for each peer, for pages and for the desk.
 pub fn passes_for(serving: &Serving<'_>) -> usize
     requires places { HasPlaces serving.now }
-    ensures { (1 ≤ result) × (result ≤ 64) }
+    ensures each { result ≡ serving.now.workers + serving.now.exchange_workers
+        + vec_len serving.now.peers + threads_at_one serving.now.page
+        + threads_at_one serving.now.desk }
+    ensures most { (1 ≤ result) × (result ≤ 64) }
 {
     serving.workers as usize
         + serving.exchange_workers as usize

@@ -1,5 +1,7 @@
 //! Where a server listens.
 
+ghost use Rattle.std.specs.Prelude.{◌≡◌, option_map};
+
 use crate::folder::is_absent;
 use crate::output::{CommandFault, listen_cause_of};
 use crate::refused::Refused;
@@ -73,7 +75,9 @@ fn door_of<'a, R: Net<Listener = TcpListener, Stream = TcpStream>>(
 }
 
 /// Where corrections are asked for, if anywhere.
-fn desk_address<'a>(serving: &Serving<'a>) -> Option<&'a str> {
+fn desk_address<'a>(serving: &Serving<'a>) -> Option<&'a str>
+    ensures { result ≡ option_map (λ desk. desk.address) serving.now.desk }
+{
     match serving.desk {
         None => None,
         Some(desk) => Some(desk.address),

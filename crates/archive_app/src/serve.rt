@@ -1,9 +1,10 @@
 //! `archive serve`: serves the operations in a file or a folder to DICOM clients (PS3.8, section
 //! 9.1).
 
-ghost use Rattle.std.specs.Prelude.{◌≡◌, ◌<◌, IfOk, IsSome};
+ghost use Rattle.std.specs.Prelude.{◌≡◌, ◌<◌, ◌*◌, All, IfOk, IsSome, map, unwrap_or};
 ghost use Rattle.command_words.specs.Words.{HasPlaces};
 ghost use Rattle.shelved_site.specs.Told.{IsOpenedOn};
+ghost use Rattle.archive_app.specs.Serves.{IsSeconds, IsWait};
 
 use crate::duties::{duties_of, passes_for, workers_of};
 use crate::ending::ended_with_input;
@@ -35,7 +36,12 @@ use std::thread::Threads;
 use std::time::{Clock, Duration};
 
 /// The peers, each called after so many seconds.
-fn peers_of<'a>(alloc: Global, serving: &'a Serving<'_>) -> Result<Vec<Peer<'a>>, AllocError> {
+fn peers_of<'a>(alloc: Global, serving: &'a Serving<'_>) -> Result<Vec<Peer<'a>>, AllocError>
+    ensures addresses { IfOk result (λ peers. map (λ peer. peer.address.now) peers.items
+        ≡ map (λ address. address.now) serving.now.peers.items) }
+    ensures pauses { IfOk result (λ peers.
+        All (λ peer. IsSeconds serving.now.every peer.every) peers.items) }
+{
     let every = Duration::from_secs(serving.every as u64);
     let mut peers = Vec::new(alloc);
     for address in serving.peers.iter() {
@@ -48,7 +54,9 @@ fn peers_of<'a>(alloc: Global, serving: &'a Serving<'_>) -> Result<Vec<Peer<'a>>
 }
 
 /// How many associations a worker accepts: with no number more than it can.
-fn each_of(serving: &Serving<'_>) -> u64 {
+fn each_of(serving: &Serving<'_>) -> u64
+    ensures { result ≡ unwrap_or serving.now.each 18_446_744_073_709_551_615 }
+{
     match serving.each {
         Some(each) => each as u64,
         None => u64::MAX,
@@ -58,6 +66,7 @@ fn each_of(serving: &Serving<'_>) -> u64 {
 /// How long a wait for a peer lasts at most; with 0 it has no end.
 pub fn wait_of(seconds: u32) -> Option<Duration>
     ensures ends { 0 < seconds → IsSome result }
+    ensures lasts { IsWait seconds result }
 {
     match seconds {
         0 => None,
@@ -66,8 +75,10 @@ pub fn wait_of(seconds: u32) -> Option<Duration>
 }
 
 /// How many bytes so many mebibytes are.
-fn bytes_of(mebibytes: u32) -> usize {
-    (mebibytes as usize) << 20
+fn bytes_of(mebibytes: u32) -> usize
+    ensures { result ≡ mebibytes * 1_048_576 }
+{
+    mebibytes as usize * 1_048_576
 }
 
 /// Serves in threads until each worker has accepted what it may and each exchange was served, and
