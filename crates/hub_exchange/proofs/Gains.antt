@@ -66,11 +66,11 @@ gains_taken these before after op (Ok Known) takes own is = gains_same these bef
 gains_taken these before after op (Err fault) takes own is = gains_same these before after takes
 
 -- what the site refused, which changes nothing
-pub refused_on_shelf : {K : Type 0} (refuses : K → K → Op → ShelfFault → Type 0) (before after : Map) (op : Op)
-    (answer : Result Taken HolderFault) → TakesAlone before op answer after → IfErr answer (RefusesToRecord before op)
-    → IfErr answer (RefusesOnShelf refuses before after op)
-refused_on_shelf refuses before after op (Ok taken) takes why = tt
-refused_on_shelf refuses before after op (Err fault) takes why = record { same = takes; why = inr why }
+pub refused_on_shelf : {K : Type 0} (these : K → Type 0) (refuses : K → K → Op → ShelfFault → Type 0)
+    (before after : Map) (op : Op) (answer : Result Taken HolderFault) → TakesAlone before op answer after
+    → IfErr answer (RefusesToRecord before op) → IfErr answer (RefusesOnShelf these refuses before after op)
+refused_on_shelf these refuses before after op (Ok taken) takes why = tt
+refused_on_shelf these refuses before after op (Err fault) takes why = record { same = takes; why = inr why }
 
 -- a set with the record of an operation
 pub with_record : (m : Map) (op recorded : Op) → recorded ≡ op_in op → digest_of (op_in op) ≡ digest_of op
@@ -151,11 +151,11 @@ pub stands_loaded : (m : Map) (digest : List ℕ) (held op : Op) → held_at m d
 stands_loaded m digest held op there is named = (there ∙ ap Some (sym is), named)
 
 -- no operation of the record came of the shelf
-pub load_refused_on_shelf : {K : Type 0} (is_up : K → Type 0) (holds : K → Op → Type 0)
+pub load_refused_on_shelf : {K : Type 0} (these : K → Type 0) (is_up : K → Type 0) (holds : K → Op → Type 0)
     (refuses : K → K → List ℕ → ShelfFault → Type 0) (m : Map) (digest : List ℕ) (held : Op) (fault : HolderFault)
-    → held_at m digest ≡ Some held → RefusesRecord refuses (HasFound is_up holds) held digest fault
-    → RefusesLoadOnShelf is_up holds refuses m m digest fault
-load_refused_on_shelf is_up holds refuses m digest held fault there why =
+    → held_at m digest ≡ Some held → RefusesRecord these refuses (HasFound is_up holds) held digest fault
+    → RefusesLoadOnShelf these is_up holds refuses m m digest fault
+load_refused_on_shelf these is_up holds refuses m digest held fault there why =
     record { same = refl; held = held; there = there; why = why }
 
 -- a site that nobody else changes takes as a holder does

@@ -164,21 +164,22 @@ refused_by opening before op fault = record {
 }
 
 -- What the hub refused a pass was refused by its hub.
-pub refused_at_hub : {P : Type 0} (refuses : P → P → Op → ShelfFault → Type 0) (opening : Map) (before later : Seat)
-    (op : Op) (reply : Result Taken HolderFault) → OnErr reply (later.seen ≡ before.seen)
-    → IfErr reply (RefusesToPublish opening before later op) → IfErr reply (RefusesAtHub refuses opening before later op)
-refused_at_hub refuses opening before later op (Ok taken) seen why = tt
-refused_at_hub refuses opening before later op (Err fault) seen why = record { seen = seen; why = inr why }
+pub refused_at_hub : {P : Type 0} (these : P → Type 0) (refuses : P → P → Op → ShelfFault → Type 0) (opening : Map)
+    (before later : Seat) (op : Op) (reply : Result Taken HolderFault) → OnErr reply (later.seen ≡ before.seen)
+    → IfErr reply (RefusesToPublish opening before later op)
+    → IfErr reply (RefusesAtHub these refuses opening before later op)
+refused_at_hub these refuses opening before later op (Ok taken) seen why = tt
+refused_at_hub these refuses opening before later op (Err fault) seen why = record { seen = seen; why = inr why }
 
 -- No operation of the record came of what a look found held.
-pub load_refused_at_hub : {P : Type 0} (refuses : P → P → List ℕ → ShelfFault → Type 0)
+pub load_refused_at_hub : {P : Type 0} (these : P → Type 0) (refuses : P → P → List ℕ → ShelfFault → Type 0)
     (has_loaded : P → P → List ℕ → Option Op → Type 0) (opening : Map) (before later : Seat) (digest : List ℕ) (held : Op)
     (fault : HolderFault)
     → Looks (λ (s : Seat). set_of opening s.seen) (λ _. ⊥) before later (λ m. Some held ≡ held_at m digest)
-    → RefusesRecord refuses has_loaded held digest fault
+    → RefusesRecord these refuses has_loaded held digest fault
     → Looks (λ (s : Seat). set_of opening s.seen) (λ _. ⊥) before later
-    (λ _. RefusesLoadAtHub refuses has_loaded opening before later digest fault)
-load_refused_at_hub refuses has_loaded opening before later digest held fault look why = record {
+    (λ _. RefusesLoadAtHub these refuses has_loaded opening before later digest fault)
+load_refused_at_hub these refuses has_loaded opening before later digest held fault look why = record {
   had = look.had;
   was_had = look.was_had;
   answers = inr (held, look.was_had.until digest held (sym look.answers), why);

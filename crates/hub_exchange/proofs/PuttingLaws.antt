@@ -15,7 +15,7 @@ use Rattle.op_shelf.specs.declared.kept.Kept.TheVariants as kinds
 use Rattle.op_shelf.specs.Keep.{AreSame, Gains, GainsAll, Finds, with_one}
 use Rattle.records.specs.StandIn.{op_in}
 use Rattle.exchange.specs.declared.fault.HolderFault.{HolderFault}
-use Rattle.hub_exchange.specs.Putting.{IsKept, AreKept, WasWritten, AddsOnly, refusal_of, IsUnlike, RefusesRecord}
+use Rattle.hub_exchange.specs.Putting.{IsKept, AreKept, WasWritten, AddsOnly, IsLent, refusal_of, IsUnlike, RefusesRecord}
 
 -- what stands behind the beginning of a beginning
 behind_both : {A : Type 0} (xs ys zs : List A) → IsPrefix xs ys → IsPrefix ys zs
@@ -215,13 +215,38 @@ module _ {P : Type 0} (refuses : P → P → List ℕ → ShelfFault → Type 0)
     (before after : P) (held : Op) (digest : List ℕ) where
   -- Where it is unlike what is held, that is why.
   pub found_refused : (found : Option Op) (answer : Result Op HolderFault) → has_loaded before after digest found
-      → IfErr answer (IsUnlike held found) → IfErr answer (RefusesRecord refuses has_loaded held digest)
+      → IfErr answer (IsUnlike held found)
+      → IfErr answer (RefusesRecord (IsLent (Some before)) refuses has_loaded held digest)
   found_refused found (Ok op) loaded why = tt
   found_refused found (Err fault) loaded why =
-      inr (found, record { before = before; after = after; loaded = loaded }, why)
+      inr (found, record { before = before; named = refl; after = after; loaded = loaded }, why)
 
   -- Where the load was refused, that is.
   pub load_refused : (cause : ShelfFault) (fault : HolderFault) → refuses before after digest cause
-      → fault ≡ refusal_of cause → RefusesRecord refuses has_loaded held digest fault
+      → fault ≡ refusal_of cause → RefusesRecord (IsLent (Some before)) refuses has_loaded held digest fault
   load_refused cause fault refused told =
-      inl (record { before = before; after = after; cause = cause; refused = refused; told = told })
+      inl (record { before = before; named = refl; after = after; cause = cause; refused = refused; told = told })
+
+-- What one of these refused is refused by one of those.
+pub refused_by_those : {P : Type 0} (these those : P → Type 0) (refuses : P → P → List ℕ → ShelfFault → Type 0)
+    (has_loaded : P → P → List ℕ → Option Op → Type 0) (held : Op) (digest : List ℕ) (fault : HolderFault)
+    → ((way : P) → these way → those way) → RefusesRecord these refuses has_loaded held digest fault
+    → RefusesRecord those refuses has_loaded held digest fault
+refused_by_those these those refuses has_loaded held digest fault are (inl it) = inl (record {
+  before = it.before;
+  named = are it.before it.named;
+  after = it.after;
+  cause = it.cause;
+  refused = it.refused;
+  told = it.told;
+})
+refused_by_those these those refuses has_loaded held digest fault are (inr (found, it, why)) = inr (
+  found,
+  record {
+    before = it.before;
+    named = are it.before it.named;
+    after = it.after;
+    loaded = it.loaded;
+  },
+  why,
+)

@@ -48,19 +48,20 @@ pub record RefusesPublish (opening : Map) (before after : Seat) (op : Op) (fault
 abbrev pub RefusesToPublish : Map → Seat → Seat → Op → HolderFault → Type 0
 RefusesToPublish opening before after op fault = RefusesPublish opening before after (op_in op) fault ⊎ (fault ≡ Memory)
 
--- Why a pass does not take an operation, and has seen nothing more: its shelf refused it, or the hub did.
-pub record RefusesAtHub {P : Type 0} (refuses : P → P → Op → ShelfFault → Type 0) (opening : Map) (before after : Seat)
-    (op : Op) (fault : HolderFault) : Type 0 where
+-- Why a pass does not take an operation, and has seen nothing more: its way to the shelf, which is one of these, refused
+-- it, or the hub did.
+pub record RefusesAtHub {P : Type 0} (these : P → Type 0) (refuses : P → P → Op → ShelfFault → Type 0) (opening : Map)
+    (before after : Seat) (op : Op) (fault : HolderFault) : Type 0 where
   pub seen : after.seen ≡ before.seen
-  pub why : RefusesPut refuses refusal_of_shelf op fault ⊎ RefusesToPublish opening before after op fault
+  pub why : RefusesPut these refuses refusal_of_shelf op fault ⊎ RefusesToPublish opening before after op fault
 
 -- Why a pass does not load what it holds under a digest: its look was refused, or no operation of the record came over
--- the way to the shelf.
-abbrev pub RefusesLoadAtHub : {P : Type 0} → (P → P → List ℕ → ShelfFault → Type 0)
+-- its way to the shelf, which is one of these.
+abbrev pub RefusesLoadAtHub : {P : Type 0} → (P → Type 0) → (P → P → List ℕ → ShelfFault → Type 0)
     → (P → P → List ℕ → Option Op → Type 0) → Map → Seat → Seat → List ℕ → HolderFault → Type 0
-RefusesLoadAtHub refuses has_loaded opening before after digest fault = RefusesLook before after fault
+RefusesLoadAtHub these refuses has_loaded opening before after digest fault = RefusesLook before after fault
     ⊎ ((held : Op) × (held_at (set_of opening after.seen) digest ≡ Some held)
-    × RefusesRecord refuses has_loaded held digest fault)
+    × RefusesRecord these refuses has_loaded held digest fault)
 
 -- what the answer to a take is to a round
 abbrev pub reply_to : Result News HubFault → Result Taken HolderFault

@@ -54,30 +54,36 @@ refusal_of (shelf_faults.Store _) = Refused
 refusal_of shelf_faults.BadRow = Refused
 refusal_of shelf_faults.Memory = Memory
 
--- What keeps operations, or a way to it, was asked to keep this one and refused, and the fault is what that is to
--- whoever asked.
-pub record RefusesPut {P F : Type 0} (refuses : P → P → Op → ShelfFault → Type 0) (told_as : ShelfFault → F) (op : Op)
-    (fault : F) : Type 0 where
+-- This is the way to a shelf, or the shelf, that was lent.
+abbrev pub IsLent : {P : Type 0} → Option P → P → Type 0
+IsLent lent way = lent ≡ Some way
+
+-- One of these, which keep operations or are a way to what does, was asked to keep this one and refused, and the fault
+-- is what that is to whoever asked.
+pub record RefusesPut {P F : Type 0} (these : P → Type 0) (refuses : P → P → Op → ShelfFault → Type 0)
+    (told_as : ShelfFault → F) (op : Op) (fault : F) : Type 0 where
   pub before : P
+  pub named : these before
   pub after : P
   pub cause : ShelfFault
   pub refused : refuses before after op cause
   pub told : fault ≡ told_as cause
 
--- What keeps operations, or a way to it, was asked for the operation of a digest and refused, and the fault is what that
--- is to whoever asked.
-pub record RefusesLoad {P F : Type 0} (refuses : P → P → List ℕ → ShelfFault → Type 0) (told_as : ShelfFault → F)
-    (digest : List ℕ) (fault : F) : Type 0 where
+-- One of these was asked for the operation of a digest and refused, likewise.
+pub record RefusesLoad {P F : Type 0} (these : P → Type 0) (refuses : P → P → List ℕ → ShelfFault → Type 0)
+    (told_as : ShelfFault → F) (digest : List ℕ) (fault : F) : Type 0 where
   pub before : P
+  pub named : these before
   pub after : P
   pub cause : ShelfFault
   pub refused : refuses before after digest cause
   pub told : fault ≡ told_as cause
 
--- It answered with this.
-pub record HasAnswered {P : Type 0} (has_loaded : P → P → List ℕ → Option Op → Type 0) (digest : List ℕ)
-    (found : Option Op) : Type 0 where
+-- One of these answered with this.
+pub record HasAnswered {P : Type 0} (these : P → Type 0) (has_loaded : P → P → List ℕ → Option Op → Type 0)
+    (digest : List ℕ) (found : Option Op) : Type 0 where
   pub before : P
+  pub named : these before
   pub after : P
   pub loaded : has_loaded before after digest found
 
@@ -91,12 +97,11 @@ abbrev pub IsUnlike : Op → Option Op → HolderFault → Type 0
 IsUnlike held found Memory = ⊤
 IsUnlike held found Refused = IsNotOf held found
 
--- Why an operation is not loaded for which this one stands: what keeps operations refused the load, or its answer is
--- unlike it.
-abbrev pub RefusesRecord : {P : Type 0} → (P → P → List ℕ → ShelfFault → Type 0)
+-- Why an operation is not loaded for which this one stands: one of these refused the load, or its answer is unlike it.
+abbrev pub RefusesRecord : {P : Type 0} → (P → Type 0) → (P → P → List ℕ → ShelfFault → Type 0)
     → (P → P → List ℕ → Option Op → Type 0) → Op → List ℕ → HolderFault → Type 0
-RefusesRecord refuses has_loaded held digest fault = RefusesLoad refuses refusal_of digest fault
-    ⊎ ((found : Option Op) × HasAnswered has_loaded digest found × IsUnlike held found fault)
+RefusesRecord these refuses has_loaded held digest fault = RefusesLoad these refuses refusal_of digest fault
+    ⊎ ((found : Option Op) × HasAnswered these has_loaded digest found × IsUnlike held found fault)
 
 -- What a shelf answered to a load: while what it tells of its operations holds, one that it has, and the one that it has.
 pub record HasFound {K : Type 0} (is_up : K → Type 0) (holds : K → Op → Type 0) (before after : K) (digest : List ℕ)
@@ -104,23 +109,24 @@ pub record HasFound {K : Type 0} (is_up : K → Type 0) (holds : K → Op → Ty
   pub there : is_up after → IfSome found (holds before)
   pub exact : is_up after → (op : Op) → holds before op → hash_of op ≡ digest → IsFoundAs found op
 
--- Why a site on a shelf does not load what it holds under a digest, and stays: no operation of the record came of the
--- shelf.
-pub record RefusesLoadOnShelf {K : Type 0} (is_up : K → Type 0) (holds : K → Op → Type 0)
+-- Why a site on a shelf, which is one of these, does not load what it holds under a digest, and stays: no operation of
+-- the record came of the shelf.
+pub record RefusesLoadOnShelf {K : Type 0} (these : K → Type 0) (is_up : K → Type 0) (holds : K → Op → Type 0)
     (refuses : K → K → List ℕ → ShelfFault → Type 0) (before after : Map) (digest : List ℕ) (fault : HolderFault)
     : Type 0 where
   pub same : after ≡ before
   pub held : Op
   pub there : held_at before digest ≡ Some held
-  pub why : RefusesRecord refuses (HasFound is_up holds) held digest fault
+  pub why : RefusesRecord these refuses (HasFound is_up holds) held digest fault
 
 -- why a site does not take the record of an operation: it does not take what stands for it, or memory was refused for
 -- the record
 abbrev pub RefusesToRecord : Map → Op → HolderFault → Type 0
 RefusesToRecord m op fault = RefusesTake m (op_in op) fault ⊎ (fault ≡ Memory)
 
--- Why a site on a shelf does not take an operation, and stays: the shelf refused it, or the site did.
-pub record RefusesOnShelf {K : Type 0} (refuses : K → K → Op → ShelfFault → Type 0) (before after : Map) (op : Op)
-    (fault : HolderFault) : Type 0 where
+-- Why a site on a shelf, which is one of these, does not take an operation, and stays: the shelf refused it, or the site
+-- did.
+pub record RefusesOnShelf {K : Type 0} (these : K → Type 0) (refuses : K → K → Op → ShelfFault → Type 0)
+    (before after : Map) (op : Op) (fault : HolderFault) : Type 0 where
   pub same : after ≡ before
-  pub why : RefusesPut refuses refusal_of op fault ⊎ RefusesToRecord before op fault
+  pub why : RefusesPut these refuses refusal_of op fault ⊎ RefusesToRecord before op fault

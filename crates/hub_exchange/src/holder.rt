@@ -8,10 +8,10 @@ ghost use Rattle.site_hub.specs.Hub.{Seat, HasLooked};
 ghost use Rattle.exchange.specs.Held.{Looks, TakesIn};
 ghost use Rattle.hub_exchange.specs.Fault.{refusal_of, reply_to, RefusesLook, RefusesToPublish, RefusesAtHub};
 ghost use Rattle.hub_exchange.specs.Onward.{IsOnward};
-ghost use Rattle.hub_exchange.specs.Putting.{WasWritten};
+ghost use Rattle.hub_exchange.specs.Putting.{WasWritten, IsLent};
 
 use crate::asking::{All, Held, In, Missing, Recorded};
-use crate::putting::{Put, Shelved, load_over, refusal_of_shelf};
+use crate::putting::{AtLending, Put, Shelved, load_over, refusal_of_shelf};
 use crate::{Extract, LedgerName};
 use association_worker::AtEntry;
 use exchange::{Digests, Holder, HolderFault, Version, buckets_of};
@@ -35,7 +35,7 @@ pub struct HubHolder<
     S: Wait,
     N: LedgerName,
     P,
-    E: AtEntry,
+    E: AtEntry + AtLending<P>,
 > {
     rt: &'a S,
     keeper: &'a Mutex<Keeper<H, T, R>>,
@@ -45,17 +45,27 @@ pub struct HubHolder<
     of: PhantomData<E>,
 }
 
-impl<'a, 'b, H: HubName, T: Shows<H>, R: Wait + Drop, S: Wait, N: LedgerName, P, E: AtEntry> Model
-    for HubHolder<'a, 'b, H, T, R, S, N, P, E> {
+impl<
+    'a,
+    'b,
+    H: HubName,
+    T: Shows<H>,
+    R: Wait + Drop,
+    S: Wait,
+    N: LedgerName,
+    P,
+    E: AtEntry + AtLending<P>,
+> Model for HubHolder<'a, 'b, H, T, R, S, N, P, E> {
     ghost use Rattle.site_hub.specs.Hub.{Seat};
     ghost use Rattle.hub_exchange.specs.Putting.{WasWritten};
-    ghost use Rattle.hub_exchange.specs.Onward.{IsOnward};
+    ghost use Rattle.hub_exchange.specs.Onward.{IsServing};
 
     ghost Value = { Seat };
 
     ghost view = { λ h. h.pass };
 
-    ghost invariant = { λ h. IsOnward (WasWritten h.extract) E.seat h.pass };
+    ghost invariant = { λ h.
+        IsServing (WasWritten h.extract) E.seat h.pass E.lent h.shelf.now };
 }
 
 /// What a fault of the hub is to a round.
@@ -128,7 +138,7 @@ impl<
     S: Wait,
     N: LedgerName,
     P,
-    E: AtEntry,
+    E: AtEntry + AtLending<P>,
 > HubHolder<'a, 'b, H, T, R, S, N, P, E> {
     /// The holder of an exchange that begins with this pass, when this is known of the ledger.
     pub fn new(
@@ -139,6 +149,7 @@ impl<
         extract: Extract<N>,
     ) -> HubHolder<'a, 'b, H, T, R, S, N, P, E>
         requires entry { pass ≡ E.seat }
+        requires lent { IsLent E.lent shelf.now }
         ensures { result ≡ pass }
     {
         HubHolder {
@@ -178,10 +189,11 @@ impl<
     S: Wait,
     N: LedgerName,
     P: Put<N> + Copy,
-    E: AtEntry,
+    E: AtEntry + AtLending<P>,
 > Holder for HubHolder<'a, 'b, H, T, R, S, N, P, E> {
     ghost use Rattle.std.specs.Prelude.{◌≡◌};
     ghost use Rattle.hub_exchange.specs.Fault.{RefusesLook, RefusesAtHub, RefusesLoadAtHub};
+    ghost use Rattle.hub_exchange.specs.Putting.{IsLent};
 
     ghost holds = { λ s. set_of H.opening s.seen };
 
@@ -190,10 +202,10 @@ impl<
     ghost refuses_look = { RefusesLook };
 
     // The shelf refused to put it, or the hub to take it: then the pass has seen nothing more.
-    ghost refuses_take = { RefusesAtHub P.refuses H.opening };
+    ghost refuses_take = { RefusesAtHub (IsLent E.lent) P.refuses H.opening };
 
     // Its look was refused, or no operation of the record came over the way to the shelf.
-    ghost refuses_load = { RefusesLoadAtHub P.refuses_load P.has_loaded H.opening };
+    ghost refuses_load = { RefusesLoadAtHub (IsLent E.lent) P.refuses_load P.has_loaded H.opening };
 
     fn digests(&mut self, _alloc: Global, version: Version) -> Result<Digests, HolderFault> {
         look(&mut self.pass, &All { version })
@@ -244,7 +256,8 @@ impl<
         // What the pass has seen published is told as taken, and what is refused the shelf or the
         // hub refused in this call.
         ensures refused { OnErr result (self.new.seen ≡ self.old.seen) }
-        ensures why { IfErr result (RefusesAtHub P.refuses H.opening self.old self.new op) }
+        ensures why { IfErr result
+            (RefusesAtHub (IsLent E.lent) P.refuses H.opening self.old self.new op) }
     {
         // Where memory is refused for its record, nothing is put.
         let Ok(recorded) = self.pass.record(&op) else {

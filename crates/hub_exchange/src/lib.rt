@@ -25,5 +25,7 @@ pub use book::{Extract, LedgerName};
 pub use exchanging::{Behind, exchange_on};
 pub use holder::HubHolder;
 pub use ledger::{Blank, Ledger};
-pub use putting::{Put, Shelved, put_all, put_shown, read_kept, refusal_of_shelf, shown};
+pub use putting::{
+    AtLending, Put, Shelved, put_all, put_shown, read_kept, refusal_of_shelf, shown,
+};
 pub use shelf_holder::{AtOpening, ShelvedHolder};

@@ -7,7 +7,7 @@ ghost use Rattle.op_shelf.specs.declared.fault.ShelfFault.{ShelfFault};
 ghost use Rattle.op_shelf.specs.Keep.{IsFoundAs};
 ghost use Rattle.records.specs.StandIn.{op_in};
 ghost use Rattle.hub_exchange.specs.Putting.{IsKept, AreKept, WasWritten, refusal_of};
-ghost use Rattle.hub_exchange.specs.Putting.{IsUnlike, RefusesRecord, HasFound};
+ghost use Rattle.hub_exchange.specs.Putting.{IsLent, IsUnlike, RefusesRecord, HasFound};
 
 use crate::{Extract, Ledger, LedgerName};
 use exchange::HolderFault;
@@ -15,6 +15,7 @@ use op_shelf::{Keep, ShelfFault};
 use operation::{Digest, Digested, Op};
 use records::RecordedOp;
 use std::alloc::Global;
+use std::marker::Brand;
 
 /// The digest of an operation that a shelf keeps, and a beginning of that shelf's ledger in which
 /// it stands.
@@ -92,6 +93,19 @@ pub fn read_kept<K: Keep, N: LedgerName>(
     shelf.read(digest)
 }
 
+/// The way to a shelf that an association, or an exchange, is lent. Each call of a program picks it.
+pub trait AtLending<P> {
+    ghost use Rattle.std.specs.Prelude.{Option};
+
+    ghost lent: { Option P };
+}
+
+impl<P> AtLending<P> for Brand {
+    ghost use Rattle.std.specs.Prelude.{None};
+
+    ghost lent = { None };
+}
+
 /// A way to the shelf of a ledger.
 pub trait Put<N: LedgerName> {
     // Why it may refuse to put an operation, by what it was before the call and what it is then.
@@ -148,7 +162,8 @@ pub(crate) fn load_over<N: LedgerName, P: Put<N>>(
     held: &RecordedOp,
 ) -> Result<Op, HolderFault>
     ensures stands { IfOk result (λ op. (op_in op ≡ held.now) × (digest_of op ≡ digest.now)) }
-    ensures why { IfErr result (RefusesRecord P.refuses_load P.has_loaded held.now digest.now) }
+    ensures why { IfErr result (RefusesRecord (IsLent (Some shelf.old)) P.refuses_load P.has_loaded
+        held.now digest.now) }
 {
     match shelf.load(digest) {
         Ok(found) => of_record(alloc, found, held),
@@ -164,8 +179,8 @@ pub(crate) fn load_from<K: Keep>(
     held: &RecordedOp,
 ) -> Result<Op, HolderFault>
     ensures stands { IfOk result (λ op. (op_in op ≡ held.now) × (digest_of op ≡ digest.now)) }
-    ensures why { IfErr result
-        (RefusesRecord K.refuses_load (HasFound K.is_up K.holds) held.now digest.now) }
+    ensures why { IfErr result (RefusesRecord (IsLent (Some shelf.old)) K.refuses_load
+        (HasFound K.is_up K.holds) held.now digest.now) }
     ensures up { K.is_up shelf.new → K.is_up shelf.old }
     ensures kept { K.is_up shelf.new → (other : Operation) → K.lasts shelf.old other
         → K.lasts shelf.new other }

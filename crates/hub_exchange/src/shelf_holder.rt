@@ -106,7 +106,7 @@ fn take_record(alloc: Global, site: &mut Site, op: &Digested) -> Result<Taken, H
 impl<K: Keep + Drop, E: AtOpening> Holder for ShelvedHolder<K, E> {
     ghost use Rattle.std.specs.Prelude.{◌≡◌};
     ghost use Rattle.exchange.specs.declared.fault.HolderFault.TheVariants.{Memory};
-    ghost use Rattle.hub_exchange.specs.Putting.{RefusesOnShelf, RefusesLoadOnShelf};
+    ghost use Rattle.hub_exchange.specs.Putting.{HaveGoneOn, RefusesOnShelf, RefusesLoadOnShelf};
 
     ghost holds = { λ s. s };
 
@@ -115,10 +115,13 @@ impl<K: Keep + Drop, E: AtOpening> Holder for ShelvedHolder<K, E> {
     ghost refuses_look = { λ _ _ fault. fault ≡ Memory };
 
     // The shelf refused to put it, or the site to take it.
-    ghost refuses_take = { RefusesOnShelf K.refuses };
+    ghost refuses_take = { λ before.
+        RefusesOnShelf (HaveGoneOn K.is_up K.lasts E.lasted E.opening before) K.refuses before };
 
     // No operation of the record came of the shelf.
-    ghost refuses_load = { RefusesLoadOnShelf K.is_up K.holds K.refuses_load };
+    ghost refuses_load = { λ before.
+        RefusesLoadOnShelf (HaveGoneOn K.is_up K.lasts E.lasted E.opening before) K.is_up K.holds
+        K.refuses_load before };
 
     fn digests(&mut self, alloc: Global, version: Version) -> Result<Digests, HolderFault> {
         self.site.see_lawful();

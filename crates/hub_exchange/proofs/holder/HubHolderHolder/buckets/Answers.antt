@@ -8,15 +8,24 @@ use Rattle.hub_exchange.proofs.holder.HubHolderHolder.buckets.Goals as goal
 
 -- A look makes nothing the pass's own, where it was refused,
 pub invariant_of-self : goal.invariant_of-self
-invariant_of-self g c = onward_seen _ _ _ _ c.self.invariant c.look.ensures.looked
+invariant_of-self g c = record {
+  onward = onward_seen _ _ _ _ c.self.invariant.onward c.look.ensures.looked;
+  lent = c.self.invariant.lent;
+}
 
 -- where memory was refused for the buckets,
 pub invariant_of-self-in_err-buckets_of : goal.invariant_of-self-in_err-buckets_of
-invariant_of-self-in_err-buckets_of g c = onward_seen _ _ _ _ c.self.invariant c.look.ensures.looked
+invariant_of-self-in_err-buckets_of g c = record {
+  onward = onward_seen _ _ _ _ c.self.invariant.onward c.look.ensures.looked;
+  lent = c.self.invariant.lent;
+}
 
 -- and where these are told.
 pub invariant_of-self-2 : goal.invariant_of-self-2
-invariant_of-self-2 g c = onward_seen _ _ _ _ c.self.invariant c.look.ensures.looked
+invariant_of-self-2 g c = record {
+  onward = onward_seen _ _ _ _ c.self.invariant.onward c.look.ensures.looked;
+  lent = c.self.invariant.lent;
+}
 
 -- A look that was refused is why there are none.
 pub returns-in_err-digests : goal.returns-in_err-digests

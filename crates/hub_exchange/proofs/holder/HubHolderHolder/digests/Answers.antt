@@ -3,7 +3,10 @@ use Rattle.hub_exchange.proofs.holder.HubHolderHolder.digests.Goals as goal
 
 -- A look makes nothing the pass's own.
 pub invariant_of-self : goal.invariant_of-self
-invariant_of-self g c = onward_seen _ _ _ _ c.self.invariant c.look.ensures.looked
+invariant_of-self g c = record {
+  onward = onward_seen _ _ _ _ c.self.invariant.onward c.look.ensures.looked;
+  lent = c.self.invariant.lent;
+}
 
 -- What the pass answers the holder answers.
 pub returns : goal.returns

@@ -25,7 +25,7 @@ returns-in-Ok-clause-takes g c =
 
 -- What the shelf has kept only the site refuses, which changes nothing.
 pub returns-in-Ok-clause-why : goal.returns-in-Ok-clause-why
-returns-in-Ok-clause-why g c = rw (← c.self.view_is) (refused_on_shelf g.K.Keep.refuses _ _ _ _
+returns-in-Ok-clause-why g c = rw (← c.self.view_is) (refused_on_shelf _ g.K.Keep.refuses _ _ _ _
     c.take_record.ensures.takes c.take_record.ensures.why)
 
 -- What the shelf refused the site does not take,
@@ -39,6 +39,7 @@ returns-clause-why g c = record {
   same = search rules;
   why = inl (record {
     before = _;
+    named = rw (← c.self.view_is) c.self.invariant;
     after = _;
     cause = _;
     refused = c.in-Err.ensures.why;
