@@ -4,5 +4,6 @@ pub mod MakingLaws
 pub mod OutcomeLaws
 pub mod RequestLaws
 pub mod SendingLaws
+pub mod StampLaws
 pub mod TabledLaws
 pub mod WhyLaws

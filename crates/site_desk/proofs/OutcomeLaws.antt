@@ -1,6 +1,7 @@
 -- A line that is found to be that of no reason is that of none.
 use Rattle.std.proofs.Common.{◌≡◌, ◌≢◌, ℕ, List, [], ◌∷◌, Bool, true, false, Some, None, cond, refl, sym, ap}
-use Rattle.std.proofs.Common.{◌∙◌, rules}
+use Rattle.std.proofs.Common.{◌∙◌, rules, length}
+use Rattle.std.specs.Prelude.{◌==◌}
 use Rattle.std.specs.List.{AllByRecursion}
 use Rattle.std.proofs.lemmas.Option.{none-some}
 use Rattle.octets.specs.Texts.{same}
@@ -53,3 +54,8 @@ of_each P Fault.Memory all = all.1.1.1.1.1.1.1.1.1.1.1.1.1.1.1.0
 -- the line is that of no reason
 pub no_fault : (line : List ℕ) (fault : DeskFault) → fault_by line all_faults ≡ None → line ≢ refusal_line fault
 no_fault line fault isnt = of_each (λ f. line ≢ refusal_line f) fault (no_fault_in line all_faults isnt)
+
+-- a line of no byte is empty
+pub empty_is : (line : List ℕ) → (length line == 0) ≡ true → line ≡ []
+empty_is [] none = refl
+empty_is (byte ∷ line) none = search rules

@@ -6,8 +6,8 @@ use Rattle.std.specs.Option.{option_and_then}
 use Rattle.json.specs.Json.{Json, document}
 use Rattle.json.specs.Value.{items_of}
 use Rattle.site_desk.specs.declared.ask_fault.AskFault.{AskFault}
-use Rattle.site_desk.specs.declared.ask_fault.AskFault.TheVariants.{Broken, TooLong, NoAnswer, Unready, Memory}
-use Rattle.site_desk.specs.declared.ask_fault.AskFault.TheVariants.{Refused}
+use Rattle.site_desk.specs.declared.ask_fault.AskFault.TheVariants.{Broken, TooLong, NoAnswer, Memory, Refused}
+use Rattle.site_desk.specs.declared.ask_fault.AskFault.TheVariants.{Unready, Unsaid}
 use Rattle.site_desk.specs.Heard.{HasBody, HasStatus}
 use Rattle.site_desk.specs.Tabled.{listed, gathered, place_from, places_in, cells_at, Tells}
 use Rattle.site_desk.specs.Tabled.{IsToldBy, TellsNoRows, TellsNone, list_in, places_below, rows_at}
@@ -71,3 +71,4 @@ none_now heading text (Err Memory) ready none = tt
 none_now heading text (Err Broken) ready none = elim none [ ]
 none_now heading text (Err TooLong) ready none = elim none [ ]
 none_now heading text (Err (Refused fault)) ready none = elim none [ ]
+none_now heading text (Err Unsaid) ready none = elim none [ ]

@@ -7,8 +7,8 @@ use Rattle.json.specs.Json.{Json, Items, no_items, item, document}
 use Rattle.json.specs.Find.{get, at, as_str, as_number, as_array}
 use Rattle.octets.specs.Texts.{same}
 use Rattle.site_desk.specs.declared.ask_fault.AskFault.{AskFault}
-use Rattle.site_desk.specs.declared.ask_fault.AskFault.TheVariants.{Broken, TooLong, NoAnswer, Unready, Memory}
-use Rattle.site_desk.specs.declared.ask_fault.AskFault.TheVariants.{Refused}
+use Rattle.site_desk.specs.declared.ask_fault.AskFault.TheVariants.{Broken, TooLong, NoAnswer, Memory, Refused}
+use Rattle.site_desk.specs.declared.ask_fault.AskFault.TheVariants.{Unready, Unsaid}
 use Rattle.site_desk.specs.Heard.{HasBody, HasStatus}
 
 -- items as a list
@@ -95,6 +95,7 @@ TellsNoRows heading text Memory = ⊤
 TellsNoRows heading text Broken = ⊥
 TellsNoRows heading text TooLong = ⊥
 TellsNoRows heading text (Refused fault) = ⊥
+TellsNoRows heading text Unsaid = ⊥
 
 -- the same, and what the site cannot tell now, and nothing else, has the status of that
 abbrev pub TellsNone : List (List ℕ) → List ℕ → AskFault → Type 0
@@ -104,6 +105,7 @@ TellsNone heading text Memory = ⊤
 TellsNone heading text Broken = ⊥
 TellsNone heading text TooLong = ⊥
 TellsNone heading text (Refused fault) = ⊥
+TellsNone heading text Unsaid = ⊥
 
 -- the second of two cells, where the first is a word
 abbrev pub cell_behind : List ℕ → List (List ℕ) → Option (List ℕ)

@@ -13,15 +13,19 @@ pub enum AskFault {
     TooLong,
     #[error("the answer is none of a site")]
     NoAnswer,
-    /// The site cannot tell it now, as where memory is refused or its workers do not agree on what
-    /// it has: status 503 (RFC 9110, section 15.6.4).
-    #[error("the site cannot tell it now")]
-    Unready,
     #[error("there is no memory left")]
     Memory,
     /// The desk made no correction, for this reason.
     #[error("the desk refused")]
     Refused(DeskFault),
+    /// The site cannot tell it now, as where memory is refused or its workers do not agree on what
+    /// it has: a page of status 503 (RFC 9110, section 15.6.4).
+    #[error("the site cannot tell it now")]
+    Unready,
+    /// The desk could not say what came of the correction: memory was refused for its answer, which
+    /// has the status 503 and no line. The correction may be made.
+    #[error("the desk could not say what came of it")]
+    Unsaid,
 }
 
 impl From<AllocError> for AskFault {

@@ -9,6 +9,9 @@ use http1::framing::{Framing, MethodKind, response_framing};
 use httparse::Status;
 use httparse::spans::{EMPTY_HEADER_SPAN, parse_response};
 
+/// How many fields an answer has at most.
+const MOST_FIELDS: usize = 64;
+
 /// Whether a body of this length is the whole of one that is framed so.
 fn is_whole(framing: Framing, length: usize) -> bool
     ensures { result ≡ is_whole framing length }
@@ -26,7 +29,7 @@ pub fn body_of(text: &[u8]) -> Option<&[u8]>
     ensures found { IfSome result (λ body. HasBody text.now body.now) }
     ensures only { (body : List ℕ) → HasBody text.now body → option_copied result ≡ Some body }
 {
-    let mut spans = [EMPTY_HEADER_SPAN; 64];
+    let mut spans = [EMPTY_HEADER_SPAN; MOST_FIELDS];
     let Ok(Status::Complete(head)) = parse_response(text, &mut spans) else {
         return None;
     };
@@ -41,11 +44,11 @@ pub fn body_of(text: &[u8]) -> Option<&[u8]>
     Some(body)
 }
 
-/// Whether an answer says that the site cannot tell it now (RFC 9110, section 15.6.4).
+/// Whether an answer has the status of what a site cannot tell now (RFC 9110, section 15.6.4).
 pub(crate) fn is_unready(text: &[u8]) -> bool
     ensures { IsTrue result ↔ HasStatus text.now 503 }
 {
-    let mut spans = [EMPTY_HEADER_SPAN; 64];
+    let mut spans = [EMPTY_HEADER_SPAN; MOST_FIELDS];
     match parse_response(text, &mut spans) {
         Ok(Status::Complete(head)) => head.code == 503,
         _ => false,

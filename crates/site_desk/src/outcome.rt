@@ -1,14 +1,16 @@
 //! What a desk answered, read by who asked.
 
-ghost use Rattle.std.specs.Prelude.{◌≡◌, IfOk, IfErr, IfSome};
+ghost use Rattle.std.specs.Prelude.{◌≡◌, IfOk, IfErr, IfSome, Some};
+ghost use Rattle.std.specs.Fmt.{decimal};
 ghost use Rattle.site_desk.specs.Answers.{stamp_line, refusal_line};
 ghost use Rattle.site_desk.specs.Heard.{HasBody};
-ghost use Rattle.site_desk.specs.Outcomes.{all_faults, fault_by, TellsRefusal};
+ghost use Rattle.site_desk.specs.Outcomes.{all_faults, fault_by, IsStamp, stamp_text, TellsRefusal};
+ghost use Rattle.site_desk.specs.declared.answer.Made.{Made as Stamped};
 
 use crate::answer::{Made, line_of, line_of_fault};
 use crate::ask_fault::AskFault;
 use crate::fault::DeskFault;
-use crate::heard::body_of;
+use crate::heard::{body_of, is_unready};
 use std::alloc::{AllocError, Global};
 
 /// All that a desk refuses for.
@@ -35,20 +37,50 @@ fn faults() -> &'static [DeskFault]
     ]
 }
 
-/// What a line tells as a stamp.
-fn stamp_in(line: &[u8]) -> Option<Made> {
-    let text = str::from_utf8(line).ok()?;
+/// The stamp of a counter and the number of a site, each in decimal digits.
+fn stamp_of(counter: &str, site: &str) -> Option<Made>
+    ensures { (made : Stamped) → IsStamp made → counter.now ≡ decimal made.counter
+        → site.now ≡ decimal made.site → result ≡ Some made }
+{
+    match (counter.parse::<u64>(), site.parse::<u16>()) {
+        (Ok(counter), Ok(site)) => Some(Made { counter, site }),
+        _ => None,
+    }
+}
+
+/// The stamp that stands between the first word of a line and its end.
+fn stamp_between(text: &str) -> Option<Made>
+    ensures { (made : Stamped) → IsStamp made → text.now ≡ stamp_text made → result ≡ Some made }
+{
+    match text.split_once(' ') {
+        None => None,
+        Some((counter, site)) => stamp_of(counter, site),
+    }
+}
+
+/// What a text tells as a stamp: where it is the line of one, that.
+fn stamp_told(text: &str) -> Option<Made>
+    ensures { (made : Stamped) → IsStamp made → text.now ≡ stamp_line made → result ≡ Some made }
+{
     let rest = text.strip_prefix("stamp ")?;
-    let (counter, site) = rest.strip_suffix('\n')?.split_once(' ')?;
-    Some(Made {
-        counter: counter.parse::<u64>().ok()?,
-        site: site.parse::<u16>().ok()?,
-    })
+    stamp_between(rest.strip_suffix('\n')?)
+}
+
+/// The same of bytes.
+fn stamp_in(line: &[u8]) -> Option<Made>
+    ensures { (made : Stamped) → IsStamp made → line.now ≡ stamp_line made → result ≡ Some made }
+{
+    match str::from_utf8(line) {
+        Ok(text) => stamp_told(text),
+        Err(_error) => None,
+    }
 }
 
 /// The stamp of which this is the line, if it is that of one.
 fn made_by(alloc: Global, line: &[u8]) -> Result<Option<Made>, AllocError>
-    ensures { IfOk result (λ found. IfSome found (λ made. line.now ≡ stamp_line made)) }
+    ensures found { IfOk result (λ found. IfSome found (λ made. line.now ≡ stamp_line made)) }
+    ensures only { IfOk result (λ found. (made : Stamped) → IsStamp made
+        → line.now ≡ stamp_line made → found ≡ Some made) }
 {
     let Some(made) = stamp_in(line) else {
         return Ok(None);
@@ -75,7 +107,8 @@ fn fault_by(alloc: Global, line: &[u8]) -> Result<Option<DeskFault>, AllocError>
     Ok(None)
 }
 
-/// The stamp that a desk answered, or its reason, where its answer is there in whole.
+/// The stamp that a desk answered, or its reason, where its answer is there in whole; or that it
+/// could not say what came of the correction.
 pub fn outcome_of(alloc: Global, text: &[u8]) -> Result<Made, AskFault>
     ensures made { IfOk result (λ made. HasBody text.now (stamp_line made)) }
     ensures refused { IfErr result (TellsRefusal text.now) }
@@ -88,6 +121,7 @@ pub fn outcome_of(alloc: Global, text: &[u8]) -> Result<Made, AskFault>
     }
     match fault_by(alloc, line)? {
         Some(fault) => Err(AskFault::Refused(fault)),
+        None if line.is_empty() && is_unready(text) => Err(AskFault::Unsaid),
         None => Err(AskFault::NoAnswer),
     }
 }

@@ -182,8 +182,7 @@ fn told_by(alloc: Global, heading: &[&str], value: &Value<'_>) -> Result<Option<
     Ok(Some(Told { rows, pages }))
 }
 
-/// The rows that an answer tells, which is there in whole, in order, each with the cells below the
-/// names of a heading, and how many pages it tells there are: one where it says none.
+/// The same of an answer, whatever its status.
 fn page_in(alloc: Global, heading: &[&str], text: &[u8]) -> Result<Told, AskFault>
     ensures told { IfOk result (λ told.
         IsToldBy (map (λ name. name.now) heading.now) text.now told.rows.items told.pages) }
@@ -206,8 +205,10 @@ fn page_in(alloc: Global, heading: &[&str], text: &[u8]) -> Result<Told, AskFaul
     }
 }
 
-/// The same. An answer whose number of pages is no number is none of a site; one of status 503 says
-/// that the site cannot tell them now.
+/// The rows that an answer tells, which is there in whole, in order, each with the cells below the
+/// names of a heading, and how many pages it tells there are: one where it says none. An answer
+/// whose number of pages is no number is none of a site; one of status 503 says that the site
+/// cannot tell them now.
 pub fn page_of(alloc: Global, heading: &[&str], text: &[u8]) -> Result<Told, AskFault>
     ensures told { IfOk result (λ told.
         IsToldBy (map (λ name. name.now) heading.now) text.now told.rows.items told.pages) }
