@@ -10,6 +10,7 @@ use Rattle.operation.specs.RecordParts.{ContentRecordParts, content_record}
 use Rattle.op_shelf.specs.declared.fault.ShelfFault.{ShelfFault}
 use Rattle.op_shelf.specs.declared.fault.ShelfFault.TheVariants as shelf_faults
 use Rattle.site_hub.specs.Hub.{Seat}
+use Rattle.hub_exchange.specs.Putting.{IsLent}
 use Rattle.archive_model.specs.Listed.{IsOfRecord}
 use Rattle.association_run.specs.Port.{IsLoadFault}
 use Rattle.association_services.specs.declared.reply.PortFault.{PortFault}
@@ -18,11 +19,11 @@ use Rattle.archive_server.specs.Fault.{port_fault_of}
 use Rattle.archive_server.specs.Refusing.{RefusesStore, IsNoneOf, IsUnlike, RefusesLoadOf}
 
 -- What the hub refuses to publish is refused by the hub.
-pub hub_refused : {P : Type 0} (refuses : P → P → Op → ShelfFault → Type 0) (before later : Seat) (op : Op)
-    (reply : Result Taken PortFault) → reply ≢ Err Shelf → (reply ≡ Err Busy → Rose before.refused later.refused)
-    → IfErr reply (RefusesStore refuses before later op)
-hub_refused refuses before later op (Ok taken) own busy = tt
-hub_refused refuses before later op (Err fault) own busy =
+pub hub_refused : {P : Type 0} (these : P → Type 0) (refuses : P → P → Op → ShelfFault → Type 0) (before later : Seat)
+    (op : Op) (reply : Result Taken PortFault) → reply ≢ Err Shelf
+    → (reply ≡ Err Busy → Rose before.refused later.refused) → IfErr reply (RefusesStore these refuses before later op)
+hub_refused these refuses before later op (Ok taken) own busy = tt
+hub_refused these refuses before later op (Err fault) own busy =
     inr (record { own = λ is. own (ap Err is); busy = λ is. busy (ap Err is) })
 
 -- ---- loads
@@ -70,14 +71,24 @@ shelf_replies shelf_faults.Memory = inl (inl refl)
 pub brought_refused : {P : Type 0} (refuses : P → P → List ℕ → ShelfFault → Type 0)
     (has_loaded : P → P → List ℕ → Option Op → Type 0) (before after : P) (asked : ContentRecordParts) (found : Option Op)
     (answer : Result ContentParts PortFault) → has_loaded before after asked.digest found
-    → IfErr answer (IsUnlike asked found) → IfErr answer (RefusesLoadOf refuses has_loaded asked)
+    → IfErr answer (IsUnlike asked found)
+    → IfErr answer (RefusesLoadOf (IsLent (Some before)) refuses has_loaded asked)
 brought_refused refuses has_loaded before after asked found (Ok content) loaded unlike = tt
 brought_refused refuses has_loaded before after asked found (Err fault) loaded unlike =
-    inr (found, record { before = before; after = after; loaded = loaded }, unlike)
+    inr (found, record { before = before; named = refl; after = after; loaded = loaded }, unlike)
 
 pub shelf_refused : {P : Type 0} (refuses : P → P → List ℕ → ShelfFault → Type 0)
     (has_loaded : P → P → List ℕ → Option Op → Type 0) (before after : P) (asked : ContentRecordParts)
     (cause : ShelfFault) (fault : PortFault) → refuses before after asked.digest cause → fault ≡ port_fault_of cause
-    → RefusesLoadOf refuses has_loaded asked fault
+    → RefusesLoadOf (IsLent (Some before)) refuses has_loaded asked fault
 shelf_refused refuses has_loaded before after asked cause fault refused told =
-    inl (record { before = before; after = after; cause = cause; refused = refused; told = told })
+    inl (record { before = before; named = refl; after = after; cause = cause; refused = refused; told = told })
+
+-- What the way that was lent refused is refused by it under each name of it.
+pub refused_as_lent : {P : Type 0} (refuses : P → P → List ℕ → ShelfFault → Type 0)
+    (has_loaded : P → P → List ℕ → Option Op → Type 0) (lent : Option P) (way : P) (asked : ContentRecordParts)
+    (answer : Result ContentParts PortFault) → IsLent lent way
+    → IfErr answer (RefusesLoadOf (IsLent (Some way)) refuses has_loaded asked)
+    → IfErr answer (RefusesLoadOf (IsLent lent) refuses has_loaded asked)
+refused_as_lent {P} refuses has_loaded lent way asked answer is why =
+    subst (λ (l : Option P). IfErr answer (RefusesLoadOf (IsLent l) refuses has_loaded asked)) (sym is) why

@@ -9,17 +9,31 @@ use Rattle.site_hub.specs.Hub.{Seat}
 use Rattle.hub_exchange.specs.Putting.{RefusesPut, RefusesLoad, HasAnswered}
 use Rattle.association_services.specs.declared.reply.PortFault.{PortFault}
 use Rattle.association_services.specs.declared.reply.PortFault.TheVariants as site
+use Rattle.archive_server.specs.declared.refusing.Service.{Service}
+use Rattle.archive_server.specs.declared.refusing.Service.TheVariants.{Store, Find, Get}
 use Rattle.archive_server.specs.declared.refusing.Why.{Why}
 use Rattle.archive_server.specs.declared.refusing.Why.TheVariants.{Site, Shelf}
 use Rattle.archive_server.specs.Cause.{words_of_shelf}
 use Rattle.archive_server.specs.Fault.{port_fault_of}
 
--- the status of what an association is answered, in hexadecimal digits (PS3.4, sections B.2.3, C.4.1.1.4 and C.4.3.1.4)
-abbrev pub status_of : PortFault → List ℕ
-status_of site.Collision = codes "C000"
-status_of site.Memory = codes "A700"
-status_of site.Busy = codes "A700"
-status_of site.Shelf = codes "A700"
+-- the status of a store that is refused, in hexadecimal digits (PS3.4, section B.2.3)
+abbrev pub status_of_store : PortFault → List ℕ
+status_of_store site.Collision = codes "C000"
+status_of_store site.Memory = codes "A700"
+status_of_store site.Busy = codes "A700"
+status_of_store site.Shelf = codes "A700"
+
+-- that of a request (PS3.4, sections C.4.1.1.4 and C.4.3.1.4)
+abbrev pub status_of : Service → PortFault → List ℕ
+status_of Store fault = status_of_store fault
+status_of Find fault = codes "A700"
+status_of Get fault = codes "A702"
+
+-- what a request is called
+abbrev pub word_of : Service → List ℕ
+word_of Store = codes "store"
+word_of Find = codes "find"
+word_of Get = codes "get"
 
 -- what a site refuses for
 abbrev pub words_of_site : PortFault → List ℕ
@@ -46,9 +60,12 @@ pub record RefusesAsHub (before after : Seat) (fault : PortFault) : Type 0 where
   pub own : fault ≢ site.Shelf
   pub busy : fault ≡ site.Busy → Rose before.refused after.refused
 
--- Why a store is refused: the shelf refused to put the operation, or the hub to publish it.
-abbrev pub RefusesStore : {P : Type 0} → (P → P → Op → ShelfFault → Type 0) → Seat → Seat → Op → PortFault → Type 0
-RefusesStore refuses before after op fault = RefusesPut refuses port_fault_of op fault ⊎ RefusesAsHub before after fault
+-- Why a store is refused: the way to the shelf, which is one of these, refused to put the operation, or the hub to
+-- publish it.
+abbrev pub RefusesStore : {P : Type 0} → (P → Type 0) → (P → P → Op → ShelfFault → Type 0) → Seat → Seat → Op
+    → PortFault → Type 0
+RefusesStore these refuses before after op fault =
+    RefusesPut these refuses port_fault_of op fault ⊎ RefusesAsHub before after fault
 
 -- There is none, or it is no content of a record.
 abbrev pub IsNoneOf : ContentRecordParts → Option Op → Type 0
@@ -63,8 +80,9 @@ IsUnlike asked found site.Busy = ⊥
 IsUnlike asked found site.Collision = ⊥
 IsUnlike asked found site.Shelf = IsNoneOf asked found
 
--- Why a content of a record is not loaded: the shelf refused the load, or its answer is unlike it.
-abbrev pub RefusesLoadOf : {P : Type 0} → (P → P → List ℕ → ShelfFault → Type 0)
+-- Why a content of a record is not loaded: the way to the shelf, which is one of these, refused the load, or its answer
+-- is unlike it.
+abbrev pub RefusesLoadOf : {P : Type 0} → (P → Type 0) → (P → P → List ℕ → ShelfFault → Type 0)
     → (P → P → List ℕ → Option Op → Type 0) → ContentRecordParts → PortFault → Type 0
-RefusesLoadOf refuses has_loaded asked fault = RefusesLoad refuses port_fault_of asked.digest fault
-    ⊎ ((found : Option Op) × HasAnswered has_loaded asked.digest found × IsUnlike asked found fault)
+RefusesLoadOf these refuses has_loaded asked fault = RefusesLoad these refuses port_fault_of asked.digest fault
+    ⊎ ((found : Option Op) × HasAnswered these has_loaded asked.digest found × IsUnlike asked found fault)

@@ -132,7 +132,7 @@ impl<'a, S: Clock + Log> Answers<'a, S> {
         length.saturating_sub(COUNTED)
     }
 
-    /// Tells of a command, where lines are asked for.
+    /// Tells of a store that a command says was refused, where lines are asked for.
     fn tell(&self, command: Command) {
         if !self.manner.is_verbose {
             return;
@@ -142,8 +142,8 @@ impl<'a, S: Clock + Log> Answers<'a, S> {
         }
     }
 
-    /// Counts a command once the last fragment of its set came, and tells of it. Where memory is
-    /// refused to read it, it is let go.
+    /// Reads a command set once its last fragment came: rows are counted, and refused stores told.
+    /// What is no command set, or is refused memory, is neither counted nor told.
     fn close(&mut self) {
         if !self.is_of(COMMAND) || !self.is_of(LAST) {
             return;

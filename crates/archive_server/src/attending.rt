@@ -4,6 +4,7 @@ ghost use Rattle.std.specs.Prelude.{◌≡◌, IsErrOf};
 ghost use Rattle.association_run.specs.Fault.{CountedWhere, tells_read, tells_write};
 ghost use Rattle.association_run.specs.Output.{ReadAtLeast};
 ghost use Rattle.association_run.specs.Parts.{sides};
+ghost use Rattle.hub_exchange.specs.Putting.{IsLent};
 ghost use Rattle.archive_server.specs.Done.{Attends};
 ghost use Rattle.archive_server.specs.Serving.{HasGoneOn};
 
@@ -14,7 +15,7 @@ use archive_model::View;
 use association_run::{End, Gate, Outbox, RunFault, run_association};
 use association_worker::AtEntry;
 use devices::{Sink, Source};
-use hub_exchange::{LedgerName, Put};
+use hub_exchange::{AtLending, LedgerName, Put};
 use log::Log;
 use site_hub::{HubName, Keeper, Shows};
 use site_pages::Tally;
@@ -44,7 +45,7 @@ pub struct Attended<H: HubName, N: LedgerName> {
 
 /// One association, for a clerk whose pass the caller named.
 fn attend<
-    E: AtEntry,
+    E: AtEntry + AtLending<P>,
     H: HubName,
     T: Shows<H>,
     R: Wait + Drop,
@@ -64,6 +65,7 @@ fn attend<
     clerk: Clerk<H, N>,
 ) -> Attended<H, N>
     requires entry { clerk.pass ≡ E.seat }
+    requires lent { IsLent E.lent shelf.now }
     ensures onward { HasGoneOn clerk result.clerk }
     ensures attends { Attends H.opening archive.now.titles.now.list (I.remaining reader.old)
         (I.remaining reader.new) (sides clerk.pass (O.contents writer.old) (G.reached gate.old))

@@ -2,6 +2,7 @@
 
 ghost use Rattle.std.specs.Prelude.{◌≡◌};
 ghost use Rattle.exchange.specs.Run.{ends};
+ghost use Rattle.hub_exchange.specs.Putting.{IsLent};
 ghost use Rattle.archive_server.specs.Done.{Converses};
 ghost use Rattle.archive_server.specs.Serving.{HasGoneOn};
 
@@ -10,7 +11,7 @@ use crate::clerk::Clerk;
 use association_worker::AtEntry;
 use devices::{Sink, Source};
 use exchange::{Ended, ExchangeFault, Role, run_exchange};
-use hub_exchange::{HubHolder, LedgerName, Put};
+use hub_exchange::{AtLending, HubHolder, LedgerName, Put};
 use site_hub::{HubName, Shows};
 use std::marker::Brand;
 use std::sync::Wait;
@@ -24,7 +25,7 @@ pub struct Conversed<H: HubName, N: LedgerName> {
 
 /// One exchange, for a clerk whose pass the caller named.
 fn converse<
-    E: AtEntry,
+    E: AtEntry + AtLending<P>,
     H: HubName,
     T: Shows<H>,
     R: Wait + Drop,
@@ -42,6 +43,7 @@ fn converse<
     clerk: Clerk<H, N>,
 ) -> Conversed<H, N>
     requires entry { clerk.pass ≡ E.seat }
+    requires lent { IsLent E.lent shelf.now }
     ensures onward { HasGoneOn clerk result.clerk }
     ensures converses { Converses H.opening role
         (ends clerk.pass (I.remaining reader.old) (O.contents writer.old) (I.failures reader.old)

@@ -42,8 +42,16 @@ pub(crate) fn accept_from(entrance: Entrance<'_>, idle: Option<Duration>) -> io:
     Ok(Entered::TurnedAway(peer))
 }
 
-/// Tells of an accept that failed, and rests behind it: what it failed for, as want of file
-/// handles, may last.
+/// How long is waited before the next accept: not at all, but for a turn behind one that failed,
+/// since what the system lacked (a file handle, say) it may lack at once again.
+pub(crate) fn pause_behind_accept(came: &io::Result<Entered>) -> Duration {
+    match came {
+        Ok(_entered) => Duration::ZERO,
+        Err(_error) => turn(),
+    }
+}
+
+/// Tells of an accept that failed, and waits as long behind it; neither where the server was ended.
 pub(crate) fn rest_behind_accept<S: Clock + Log>(rt: &S, manner: Manner<'_>, error: &io::Error) {
     tell_not_accepted(rt, manner, error);
     if !manner.is_ended() {

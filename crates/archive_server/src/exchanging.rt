@@ -107,7 +107,7 @@ fn with_peer<'x, H: HubName, T: Shows<H>, R: Wait + Drop, S: Wait + Clock + Log,
     done
 }
 
-/// Accepts once. An accept that fails is used up as well.
+/// Accepts once. An accept that fails is used up as well, and a turn is rested behind it.
 fn next_exchange<H: HubName, T: Shows<H>, R: Wait + Drop, S: Wait + Clock + Log, N: LedgerName>(
     hall: &Hall<'_, H, T, R, S>,
     entrance: Entrance<'_>,

@@ -11,7 +11,7 @@ ghost use Rattle.archive_server.specs.Entering.{IsAsAllowed};
 use crate::calling::Pauses;
 use crate::clerk::Clerk;
 use crate::done::Done;
-use crate::entrance::{Entered, Entrance, accept_from};
+use crate::entrance::{Entered, Entrance, accept_from, pause_behind_accept};
 use crate::fault::{NetFault, ServeFault};
 use crate::gauges::Gauges;
 use crate::journal::{Whence, tell_not_accepted, tell_turned_away, tell_visit};
@@ -102,14 +102,6 @@ fn with_entered<H: HubName, T: Shows<H>, R: Wait + Drop, S: Wait + Clock + Log, 
 /// Whether nobody came within a turn.
 pub(crate) fn is_nobody(came: &io::Result<Entered>) -> bool {
     matches!(came, Err(error) if is_cut_off(error))
-}
-
-/// How long is waited before the next accept: not at all, but for a turn behind one that failed.
-pub(crate) fn pause_behind_accept(came: &io::Result<Entered>) -> Duration {
-    match came {
-        Ok(_entered) => Duration::ZERO,
-        Err(_error) => turn(),
-    }
 }
 
 /// Accepts once, unless nobody comes within a turn. It says how long is waited before the next.

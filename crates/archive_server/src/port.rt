@@ -1,6 +1,6 @@
 //! The port of an association of a server.
 
-ghost use Rattle.std.specs.Prelude.{◌≡◌, ◌≢◌, Err, IfErr, IfOk, IfSome, MatchResult, OnErr};
+ghost use Rattle.std.specs.Prelude.{◌≡◌, Err, IfErr, IfOk, IfSome, MatchResult, OnErr, Some};
 ghost use Rattle.operation.specs.declared.op.Op.TheVariants.{Content as a_content};
 ghost use Rattle.operation.specs.Spelling.{digest_of};
 ghost use Rattle.devices.specs.Failures.{Rose};
@@ -10,20 +10,20 @@ ghost use Rattle.site_hub.specs.Hub.{Seat, IsLater};
 ghost use Rattle.association_run.specs.Port.{Stores, Finds, Gets, Loads, IsLoadFault};
 ghost use Rattle.records.specs.StandIn.{op_in};
 ghost use Rattle.archive_model.specs.Listed.{IsOfRecord};
+ghost use Rattle.hub_exchange.specs.Putting.{IsLent};
 ghost use Rattle.archive_server.specs.Refusing.{RefusesStore, RefusesLoadOf, IsUnlike};
 ghost use Rattle.archive_server.specs.Serving.{IsOnward, WasWritten};
 
 use crate::ahead::{Ahead, Brings};
-use crate::refusing::{told, told_load, told_shelf_load, told_store};
+use crate::refusing::{Service, told, told_load, told_shelf_load, told_store};
 use archive_model::{Answers, Listed, Query, Selection, View};
 use association_run::Port;
 use association_session::PortFault;
 use association_worker::{AtEntry, HubPort, loaded};
-use hub_exchange::{Extract, LedgerName, Put, Shelved};
+use hub_exchange::{AtLending, Extract, LedgerName, Put};
 use log::Log;
 use octets::ListOf;
 use operation::{Content, ContentRecord, Digested, Op, Taken};
-use records::RecordedOp;
 use site_hub::{HubName, Keeper, Pass, Shows};
 use site_pages::Tally;
 use std::alloc::Global;
@@ -43,7 +43,7 @@ pub struct ServerPort<
     S: Wait,
     N: LedgerName,
     P: Put<N> + Copy,
-    E: AtEntry,
+    E: AtEntry + AtLending<P>,
 > {
     rt: &'a S,
     shelf: &'b P,
@@ -63,17 +63,18 @@ impl<
     S: Wait,
     N: LedgerName,
     P: Put<N> + Copy,
-    E: AtEntry,
+    E: AtEntry + AtLending<P>,
 > Model for ServerPort<'a, 'b, H, T, R, S, N, P, E> {
     ghost use Rattle.site_hub.specs.Hub.{Seat};
     ghost use Rattle.hub_exchange.specs.Putting.{WasWritten};
-    ghost use Rattle.hub_exchange.specs.Onward.{IsOnward};
+    ghost use Rattle.hub_exchange.specs.Onward.{IsServing};
 
     ghost Value = { Seat };
 
     ghost view = { λ p. p.hub };
 
-    ghost invariant = { λ p. IsOnward (WasWritten p.extract) E.seat p.hub };
+    ghost invariant = { λ p.
+        IsServing (WasWritten p.extract) E.seat p.hub E.lent p.shelf.now };
 }
 
 /// How many images were listed.
@@ -111,30 +112,13 @@ fn load_over<N: LedgerName, P: Put<N>, S: Clock + Log>(
     asked: &ContentRecord,
 ) -> Result<Content, PortFault>
     ensures loaded { MatchResult result (IsOfRecord asked.now) IsLoadFault }
-    ensures why { IfErr result (RefusesLoadOf P.refuses_load P.has_loaded asked.now) }
+    ensures why { IfErr result (RefusesLoadOf (IsLent (Some shelf.old)) P.refuses_load P.has_loaded
+        asked.now) }
 {
     match shelf.load(asked.digest()) {
         Ok(found) => told_load(rt, brought(found, asked)),
         Err(fault) => Err(told_shelf_load(rt, fault)),
     }
-}
-
-/// Lets the hub take the record of what the shelf keeps.
-fn publish<H: HubName, T: Shows<H>, R: Wait + Drop, S: Wait, N: LedgerName, E: AtEntry>(
-    hub: &mut HubPort<'_, H, T, R, S, E>,
-    recorded: RecordedOp,
-    shelved: &Shelved<N>,
-) -> Result<Taken, PortFault>
-    requires { shelved.now.digest ≡ digest_of recorded }
-    ensures stores { Stores (λ (s : Seat). ops_of (set_of H.opening s.seen))
-        (λ (s : Seat). s.mine) hub.old recorded result hub.new }
-    ensures refused { OnErr result (hub.new.seen ≡ hub.old.seen) }
-    ensures own { result ≢ Err PortFault.Shelf }
-    ensures busy { result ≡ Err PortFault.Busy → Rose hub.old.refused hub.new.refused }
-    ensures onward { IsOnward (WasWritten shelved.now.extract) hub.old hub.new }
-{
-    let _ = &shelved.digest;
-    hub.take(recorded)
 }
 
 impl<
@@ -146,7 +130,7 @@ impl<
     S: Wait,
     N: LedgerName,
     P: Put<N> + Copy,
-    E: AtEntry,
+    E: AtEntry + AtLending<P>,
 > ServerPort<'a, 'b, H, T, R, S, N, P, E> {
     /// The port of an association that begins with this pass, when this is known of the ledger.
     pub(crate) fn new(
@@ -158,6 +142,7 @@ impl<
         alloc: Global,
     ) -> ServerPort<'a, 'b, H, T, R, S, N, P, E>
         requires entry { pass ≡ E.seat }
+        requires lent { IsLent E.lent shelf.now }
         ensures { result ≡ pass }
     {
         ServerPort {
@@ -203,7 +188,7 @@ impl<
     S: Wait + Clock + Log,
     N: LedgerName,
     P: Put<N> + Brings + Copy,
-    E: AtEntry,
+    E: AtEntry + AtLending<P>,
 > Port for ServerPort<'a, 'b, H, T, R, S, N, P, E> {
     ghost ops = { λ p. ops_of (set_of H.opening p.seen) };
 
@@ -216,7 +201,7 @@ impl<
         // hub refused in this call.
         ensures refused { OnErr result (self.new.seen ≡ self.old.seen) }
         ensures why { IfErr result
-            (RefusesStore P.refuses self.old self.new (a_content content)) }
+            (RefusesStore (IsLent E.lent) P.refuses self.old self.new (a_content content)) }
         ensures later { IsLater self.old self.new }
     {
         let op = Digested::of(Op::Content(content));
@@ -224,14 +209,15 @@ impl<
         let Ok(recorded) = self.hub.pass().record(&op) else {
             return self
                 .tally
-                .stored(told(self.rt, "store", Err(PortFault::Memory)));
+                .stored(told(self.rt, Service::Store, Err(PortFault::Memory)));
         };
         let mut shelf = *self.shelf;
         match shelf.put(&op) {
             Ok(shelved) => {
-                let taken = publish(&mut self.hub, recorded, &shelved);
+                // The hub takes the record of what the shelf keeps.
+                let taken = self.hub.take(recorded);
                 self.extract.learn(&shelved.extract);
-                self.tally.stored(told(self.rt, "store", taken))
+                self.tally.stored(told(self.rt, Service::Store, taken))
             }
             Err(fault) => {
                 let refused = Err(told_store(self.rt, fault));
@@ -249,7 +235,7 @@ impl<
     {
         self.tally.found();
         let rows = self.hub.rows(called, view, query);
-        told(self.rt, "find", rows)
+        told(self.rt, Service::Find, rows)
     }
 
     fn get(&mut self, view: View, selection: &Selection) -> Result<ListOf<Listed>, PortFault>
@@ -262,15 +248,17 @@ impl<
         let listed = self.hub.listed(view, selection);
         self.tally.got(length_of(&listed));
         self.ahead = ahead_of(self.alloc, &listed);
-        told(self.rt, "get", listed)
+        told(self.rt, Service::Get, listed)
     }
 
     fn load(&mut self, asked: &ContentRecord) -> Result<Content, PortFault>
         ensures loads { Loads (λ (s : Seat). ops_of (set_of H.opening s.seen))
             (λ (s : Seat). s.mine) self.old asked.now result self.new }
         ensures kept { self.new ≡ self.old }
-        // The shelf refused it in this call, or has no content of the record under its digest.
-        ensures why { IfErr result (RefusesLoadOf P.refuses_load P.has_loaded asked.now) }
+        // The shelf refused it in this call, by the way that was lent, or has no content of the
+        // record under its digest.
+        ensures why { IfErr result
+            (RefusesLoadOf (IsLent E.lent) P.refuses_load P.has_loaded asked.now) }
     {
         let mut shelf = *self.shelf;
         self.ahead.bring(&shelf, asked.digest());

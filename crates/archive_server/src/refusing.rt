@@ -3,7 +3,8 @@
 
 ghost use Rattle.std.specs.Prelude.{◌≡◌};
 ghost use Rattle.archive_server.specs.Fault.{port_fault_of};
-ghost use Rattle.archive_server.specs.Refusing.{status_of, words_of_site, words_of_load, words_of};
+ghost use Rattle.archive_server.specs.Refusing.{status_of_store, status_of, word_of};
+ghost use Rattle.archive_server.specs.Refusing.{words_of_site, words_of_load, words_of};
 
 use crate::asking::Asking;
 use crate::cause::words_of_shelf;
@@ -16,6 +17,14 @@ use operation::{Digest, Digested};
 use std::alloc::AllocError;
 use std::sync::Wait;
 use std::time::Clock;
+
+/// What a peer asked for.
+#[derive(Clone, Copy)]
+pub(crate) enum Service {
+    Store,
+    Find,
+    Get,
+}
 
 /// Why the archive refuses: what its site answered, or what its shelf had.
 #[derive(Clone, Copy)]
@@ -34,14 +43,36 @@ fn fault_of_shelf(fault: ShelfFault) -> PortFault
     }
 }
 
-/// What a request is answered that the archive itself refuses, as a line has it (PS3.4, sections
-/// B.2.3, C.4.1.1.4 and C.4.3.1.4).
-fn status_of(fault: PortFault) -> &'static str
-    ensures { result.now ≡ status_of fault }
+/// The status of a store that the archive itself refuses, as a line has it (PS3.4, section B.2.3).
+fn status_of_store(fault: PortFault) -> &'static str
+    ensures { result.now ≡ status_of_store fault }
 {
     match fault {
         PortFault::Collision => "C000",
         PortFault::Memory | PortFault::Busy | PortFault::Shelf => "A700",
+    }
+}
+
+/// What a request is answered that the archive itself refuses, as a line has it (PS3.4, sections
+/// B.2.3, C.4.1.1.4 and C.4.3.1.4).
+fn status_of(service: Service, fault: PortFault) -> &'static str
+    ensures { result.now ≡ status_of service fault }
+{
+    match service {
+        Service::Store => status_of_store(fault),
+        Service::Find => "A700",
+        Service::Get => "A702",
+    }
+}
+
+/// What a request is called in a line.
+fn word_of(service: Service) -> &'static str
+    ensures { result.now ≡ word_of service }
+{
+    match service {
+        Service::Store => "store",
+        Service::Find => "find",
+        Service::Get => "get",
     }
 }
 
@@ -67,21 +98,22 @@ fn words_of(why: Why) -> &'static str
 }
 
 /// Tells that a request was refused, which is answered with this.
-fn tell_request<S: Clock + Log>(rt: &S, request: &str, fault: PortFault, why: Why) {
-    let (moment, status, words) = (Moment::now(rt), status_of(fault), words_of(why));
+fn tell_request<S: Clock + Log>(rt: &S, service: Service, fault: PortFault, why: Why) {
+    let (moment, status, words) = (Moment::now(rt), status_of(service, fault), words_of(why));
+    let request = word_of(service);
     error!(rt; target: "archive", "{moment} {request} refused {status}: {words}");
 }
 
 /// Tells what the site refused to a request, and hands its reply on.
 pub(crate) fn told<S: Clock + Log, T>(
     rt: &S,
-    request: &str,
+    service: Service,
     reply: Result<T, PortFault>,
 ) -> Result<T, PortFault>
     ensures { result ≡ reply }
 {
     if let Err(fault) = &reply {
-        tell_request(rt, request, *fault, Why::Site(*fault));
+        tell_request(rt, service, *fault, Why::Site(*fault));
     }
     reply
 }
@@ -115,7 +147,7 @@ pub(crate) fn told_store<S: Clock + Log>(rt: &S, fault: ShelfFault) -> PortFault
     ensures { result ≡ port_fault_of fault }
 {
     let refused = fault_of_shelf(fault);
-    tell_request(rt, "store", refused, Why::Shelf(fault));
+    tell_request(rt, Service::Store, refused, Why::Shelf(fault));
     refused
 }
 

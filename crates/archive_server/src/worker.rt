@@ -138,7 +138,7 @@ fn with_wire<
     served
 }
 
-/// Accepts once. An accept that fails is used up as well.
+/// Accepts once. An accept that fails is used up as well, and a turn is rested behind it.
 fn next<H: HubName, T: Shows<H>, R: Wait + Drop, S: Wait + Clock + Log, N: LedgerName, G: Gate>(
     hall: &Hall<'_, H, T, R, S>,
     to: &Sender<Request<N>>,

@@ -3,4 +3,7 @@ use Rattle.archive_server.proofs.port.ServerPortPort.find.Goals as goal
 
 -- A look makes nothing the pass's own.
 pub invariant_of-self : goal.invariant_of-self
-invariant_of-self g c = onward_looked _ _ _ _ c.self.invariant c.rows-rows.ensures.later c.rows-rows.ensures.finds.own_kept
+invariant_of-self g c = record {
+  onward = onward_looked _ _ _ _ c.self.invariant.onward c.rows-rows.ensures.later c.rows-rows.ensures.finds.own_kept;
+  lent = c.self.invariant.lent;
+}
