@@ -96,8 +96,9 @@ words_of_fault (fault.Ask ask.Broken) = codes "the connection broke off"
 words_of_fault (fault.Ask ask.TooLong) = codes "its answer is longer than 64 MiB"
 words_of_fault (fault.Ask ask.NoAnswer) = codes "it answered what no running site does"
 words_of_fault (fault.Ask ask.Memory) = codes "memory was refused"
-words_of_fault (fault.Ask ask.Unready) = codes "it cannot tell that now: ask again"
 words_of_fault (fault.Ask (ask.Refused why)) = words_of_desk why
+words_of_fault (fault.Ask ask.Unready) = codes "it cannot tell that now: ask again"
+words_of_fault (fault.Ask ask.Unsaid) = codes "it could not say what came of it: it may be corrected"
 
 -- Of a shelf it is said that the disk is full exactly where its database said that there is no room.
 abbrev pub SaysFullOfAFullDisk : Type 0

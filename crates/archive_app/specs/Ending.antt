@@ -14,8 +14,8 @@ use Rattle.shelved_site.specs.declared.fault.ShelvedFault.{ShelvedFault}
 use Rattle.shelved_site.specs.declared.fault.ShelvedFault.TheVariants.{Shelf as of_shelf, Site as of_site}
 use Rattle.shelved_site.specs.declared.fault.ShelvedFault.TheVariants.{Hub as of_hub}
 use Rattle.site_desk.specs.declared.ask_fault.AskFault.{AskFault}
-use Rattle.site_desk.specs.declared.ask_fault.AskFault.TheVariants.{Broken, TooLong, NoAnswer, Unready, Memory}
-use Rattle.site_desk.specs.declared.ask_fault.AskFault.TheVariants.{Refused}
+use Rattle.site_desk.specs.declared.ask_fault.AskFault.TheVariants.{Broken, TooLong, NoAnswer, Memory, Refused}
+use Rattle.site_desk.specs.declared.ask_fault.AskFault.TheVariants.{Unready, Unsaid}
 use Rattle.archive_app.specs.declared.output.ending.CommandFault.{CommandFault}
 use Rattle.archive_app.specs.declared.output.ending.CommandFault.TheVariants.{Simulate, Shelf, Site, Hub, Run}
 use Rattle.archive_app.specs.declared.output.ending.CommandFault.TheVariants.{Exchange, Net, Ask}
@@ -32,6 +32,7 @@ line_of_ask NoAnswer = fault_line (codes "ask") 3
 line_of_ask Memory = fault_line (codes "ask") 4
 line_of_ask (Refused fault) = fault_line (codes "ask") 5
 line_of_ask Unready = fault_line (codes "ask") 6
+line_of_ask Unsaid = fault_line (codes "ask") 7
 
 -- the line on standard error of a command that did not do what it was asked for
 abbrev pub line_of_fault : CommandFault → List ℕ

@@ -253,8 +253,9 @@ fn words_of_ask(fault: AskFault) -> &'static str
         AskFault::TooLong => "its answer is longer than 64 MiB",
         AskFault::NoAnswer => "it answered what no running site does",
         AskFault::Memory => "memory was refused",
-        AskFault::Unready => "it cannot tell that now: ask again",
         AskFault::Refused(why) => why.words(),
+        AskFault::Unready => "it cannot tell that now: ask again",
+        AskFault::Unsaid => "it could not say what came of it: it may be corrected",
     }
 }
 

@@ -234,6 +234,7 @@ fn line_of_ask(fault: AskFault) -> &'static str
         AskFault::Memory => "fault ask 4",
         AskFault::Refused(_) => "fault ask 5",
         AskFault::Unready => "fault ask 6",
+        AskFault::Unsaid => "fault ask 7",
     }
 }
 
