@@ -72,8 +72,10 @@ covered_no_row view ops uid covered called query r has =
       made.0,
       made.1,
       made.2,
-      λ x here is.
-          false≢true (sym ((shown_are_picks view ops x).0 (made.3 x here)).1 ∙ ap (is_covered view ops) is ∙ covered),
+      λ x here. (
+        made.3 x here,
+        λ is. false≢true (sym ((shown_are_picks view ops x).0 (made.3 x here)).1 ∙ ap (is_covered view ops) is ∙ covered),
+      ),
     )
 
 -- ---- lists from which what fails a test is dropped

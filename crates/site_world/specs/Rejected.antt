@@ -7,6 +7,7 @@ use Rattle.operation.specs.declared.op.Op.{Op}
 use Rattle.operation.specs.declared.op.Op.TheVariants.{Content as a_content}
 use Rattle.operation.specs.Parts.{ContentParts}
 use Rattle.archive_model.specs.Members.{Has}
+use Rattle.archive_model.specs.Shown.{shown}
 use Rattle.archive_model.specs.View.{hides}
 use Rattle.archive_model.specs.Index.{is_content_of}
 use Rattle.archive_model.specs.declared.view.View.{View}
@@ -22,7 +23,7 @@ IsInNoRow view uid ops =
     (called : List ℕ) (query : Query) (r : Set) → Has (rows_of view called query ops) r
     → (c : ContentParts) × (cs : List ContentParts)
     × (r ≡ row ops called query (c ∷ cs) c)
-    × ((x : ContentParts) → Has (c ∷ cs) x → x.instance ≢ uid)
+    × ((x : ContentParts) → Has (c ∷ cs) x → Has (shown view ops) x × (x.instance ≢ uid))
 
 -- the operations of a set but for the contents of an instance
 abbrev pub without : List ℕ → List Op → List Op
