@@ -9,6 +9,6 @@ ghost use Rattle.association_run.specs.declared.run.TheConstants.{MOST_DROPPED, 
 pub fn limits_are_these()
     ensures dropped { MOST_DROPPED ≡ 65536 }
     ensures piece { PIECE ≡ 1024 }
-    ensures room { ROOM ≡ 65536 }
+    ensures room { ROOM ≡ 65542 }
     ensures reads { MOST_READS ≡ 4294967296 }
 {}

@@ -16,11 +16,13 @@ use pdu::{Pdu, Pdv, head_of_data, head_of_pdv, write_pdu};
 use std::alloc::{AllocError, Global};
 use std::marker::Model;
 
-/// The most bytes that are held back: 64 KB.
-const ROOM: usize = 65_536;
+/// The most bytes that are held back: the longest PDU that is sent, a header of 6 bytes and a body
+/// of 65,536 (PS3.8, section 9.3.5).
+const ROOM: usize = 65_542;
 
-/// The bytes of PDUs that are still to be written, at most 65,536. The PDUs that are sent together
-/// are written by as few writes as the room allows. Contracts see the bytes.
+/// The bytes of PDUs that are still to be written, at most 65,542, so that the longest is one
+/// write. The PDUs that are sent together are written by as few writes as the room allows.
+/// Contracts see the bytes.
 #[derive(Drop)]
 pub struct Outbox {
     bytes: Vec<u8>,

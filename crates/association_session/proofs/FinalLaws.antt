@@ -173,6 +173,9 @@ response_to_is : (a : Awaited) (status : Status) (b : Bool) → is_pending statu
 unfolding response_of
 response_to_is a status b e = record {
   context = refl;
+  field = refl;
+  affected_class = refl;
+  affected_instance = refl;
   id = refl;
   status = status;
   is = refl;
@@ -185,6 +188,9 @@ response_with_is : (a : Awaited) (status : Status) (text : List ℕ) (b : Bool) 
 unfolding response_of
 response_with_is a status text b e = record {
   context = refl;
+  field = refl;
+  affected_class = refl;
+  affected_instance = refl;
   id = refl;
   status = status;
   is = refl;
@@ -211,6 +217,9 @@ counting_is : (g : Progress) (left : List Listed) (status : Status) (remaining :
 unfolding response_of
 counting_is g left status remaining body b e told = record {
   context = refl;
+  field = refl;
+  affected_class = refl;
+  affected_instance = refl;
   id = refl;
   status = status;
   is = refl;
@@ -255,7 +264,7 @@ performed_same : (contexts : List Context) (sub : SubOperation) (outcome : Outco
 performed_same contexts sub outcome rs =
     ap (λ (n : ℕ). selecting contexts sub.progress.awaited n sub.left rs) (performed_keeps_all sub outcome)
 
-module _ (Open : Awaited → Type 0) where
+module _ (Open : Option ℕ → Type 0) where
   -- one pending response more on the way
   way_more : (r : Requested) (m : Message) (requests : List Requested) (first rest : List Pdu)
       → RespondsTo r.awaited r.selected true m → IsSending m r.awaited.limit first
@@ -293,7 +302,7 @@ module _ (Open : Awaited → Type 0) where
       sent,
       way_of_same contexts a n carried (first_of ∷ carried) carried p.0
           (λ qs. SendsLast (requesting contexts a n carried) (AreResponded Open requests) qs
-          ⊎ ((requests ≡ []) × (qs ≡ []) × Open a)) rest p.1,
+          ⊎ ((requests ≡ []) × (qs ≡ []) × Open (Some n))) rest p.1,
       refl,
     ),
   )
@@ -305,7 +314,7 @@ module _ (Open : Awaited → Type 0) where
   way_last r m requests first rest is sent p = ([], inl (m, is, first, rest, sent, p, refl))
 
   -- none any more
-  way_open : (r : Requested) → Open r.awaited → AreResponded Open (r ∷ []) []
+  way_open : (r : Requested) → Open r.selected → AreResponded Open (r ∷ []) []
   way_open r yet = ([], inr (refl, refl, yet))
 
   rows_way : (a : Awaited) (kind : RowKind) (rows : List Set) (requests : List Requested) (ps rest : List Pdu)
@@ -331,22 +340,22 @@ module _ (Open : Awaited → Type 0) where
       (Some (length (x ∷ left))) None true refl refl) sent p
 
 -- What is open stays so behind other deeds.
-last_map : (Open Wide : Awaited → Type 0) (r : Requested) (requests : List Requested) (rest : List Pdu)
-    → ((a : Awaited) → Open a → Wide a)
+last_map : (Open Wide : Option ℕ → Type 0) (r : Requested) (requests : List Requested) (rest : List Pdu)
+    → ((n : Option ℕ) → Open n → Wide n)
     → ((qs : List Pdu) → AreResponded Open requests qs → AreResponded Wide requests qs)
-    → SendsLast r (AreResponded Open requests) rest ⊎ ((requests ≡ []) × (rest ≡ []) × Open r.awaited)
-    → SendsLast r (AreResponded Wide requests) rest ⊎ ((requests ≡ []) × (rest ≡ []) × Wide r.awaited)
+    → SendsLast r (AreResponded Open requests) rest ⊎ ((requests ≡ []) × (rest ≡ []) × Open r.selected)
+    → SendsLast r (AreResponded Wide requests) rest ⊎ ((requests ≡ []) × (rest ≡ []) × Wide r.selected)
 last_map Open Wide r requests rest to goes (inl q) = inl (q.0, q.1, q.2, q.3, q.4, goes q.3 q.5, q.6)
-last_map Open Wide r requests rest to goes (inr q) = inr (q.0, q.1, to r.awaited q.2)
+last_map Open Wide r requests rest to goes (inr q) = inr (q.0, q.1, to r.selected q.2)
 
-way_map : (Open Wide : Awaited → Type 0) (r : Requested) (requests : List Requested) (carried : List Sending)
+way_map : (Open Wide : Option ℕ → Type 0) (r : Requested) (requests : List Requested) (carried : List Sending)
     (ms : List Message) (qs : List Pdu)
-    → ((a : Awaited) → Open a → Wide a)
+    → ((n : Option ℕ) → Open n → Wide n)
     → ((qs : List Pdu) → AreResponded Open requests qs → AreResponded Wide requests qs)
     → SendsOnTheWay r carried ms (λ rest. SendsLast r (AreResponded Open requests) rest
-    ⊎ ((requests ≡ []) × (rest ≡ []) × Open r.awaited)) qs
+    ⊎ ((requests ≡ []) × (rest ≡ []) × Open r.selected)) qs
     → SendsOnTheWay r carried ms (λ rest. SendsLast r (AreResponded Wide requests) rest
-    ⊎ ((requests ≡ []) × (rest ≡ []) × Wide r.awaited)) qs
+    ⊎ ((requests ≡ []) × (rest ≡ []) × Wide r.selected)) qs
 way_map Open Wide r requests carried [] qs to goes q = last_map Open Wide r requests qs to goes q
 way_map Open Wide r requests carried (m ∷ ms) qs to goes q = (
   q.0,
@@ -358,8 +367,8 @@ way_map Open Wide r requests carried (m ∷ ms) qs to goes q = (
   q.6,
 )
 
-responded_map : (Open Wide : Awaited → Type 0) (requests : List Requested) (ps : List Pdu)
-    → ((a : Awaited) → Open a → Wide a) → AreResponded Open requests ps → AreResponded Wide requests ps
+responded_map : (Open Wide : Option ℕ → Type 0) (requests : List Requested) (ps : List Pdu)
+    → ((n : Option ℕ) → Open n → Wide n) → AreResponded Open requests ps → AreResponded Wide requests ps
 responded_map Open Wide [] ps to p = p
 responded_map Open Wide (r ∷ requests) ps to p = (
   p.0,
@@ -374,9 +383,9 @@ call_behind now ds p = (
       ∙ sym (append_assoc now p.0 (Ask p.1 ∷ [])),
 )
 
-open_behind : (now ds : List Deed) (a : Awaited) → IsOpen ds a → IsOpen (now ++ ds) a
-open_behind now ds a (inl p) = inl (call_behind now ds p)
-open_behind now ds a (inr p) = inr p
+open_behind : (now ds : List Deed) (n : Option ℕ) → IsOpen ds n → IsOpen (now ++ ds) n
+open_behind now ds n (inl p) = inl (call_behind now ds p)
+open_behind now ds n (inr p) = inr p
 
 -- ---- what a talk has
 
@@ -419,7 +428,7 @@ HaveBy state contexts Asks R =
 -- messages of a C-GET behind which it goes on
 sent_have : (contexts : List Context) (r : Requested) (next : Option SubOperation) (rs : List Reply) (pdus : List Pdu)
     (rest : List Deed) (requests : List Requested) → AreData pdus → Have contexts next rs rest requests
-    → ((Open : Awaited → Type 0) → AreResponded Open (open_in contexts next rs requests) (data_in rest)
+    → ((Open : Option ℕ → Type 0) → AreResponded Open (open_in contexts next rs requests) (data_in rest)
     → AreResponded Open (r ∷ requests) (pdus ++ data_in rest))
     → AreResponded (IsOpen (map Send pdus ++ rest)) (r ∷ requests) (data_in (map Send pdus ++ rest))
 sent_have contexts r next rs pdus rest requests are_data p goes =
@@ -771,7 +780,7 @@ module _ (titles : List (Title View)) where
         refl,
         subst (λ (t : List Pdu). AreResponded (IsOpen ds) (open_in w.link.contexts (Some sub) rs []) t)
             (sym no_data) (way_open (IsOpen ds) (selecting w.link.contexts sub.progress.awaited (selected_by sub)
-            sub.left rs) (inr is.0)),
+            sub.left rs) (inr refl)),
       )
   performs_have w (Performed outcome) sub Asks Gone R R' rs ds is goes gone quiet p =
       let q = by_have sub.cancelled w.link.contexts (performed sub outcome) sub.left p.0 p.1 Asks R rs ds is.0 p.2
@@ -820,7 +829,7 @@ module _ (titles : List (Title View)) where
       → IsGetIn state sub → Have contexts sub rs [] []
   none_have state contexts None rs is = refl
   none_have state contexts (Some sub) rs is =
-      way_open (IsOpen []) (selecting contexts sub.progress.awaited (selected_by sub) sub.left rs) (inr is.0)
+      way_open (IsOpen []) (selecting contexts sub.progress.awaited (selected_by sub) sub.left rs) (inr refl)
 
   -- What was agreed stays,
   still_asked : (state : State) (request : Request) (r : Result View Reject) → value_for titles request ≡ r

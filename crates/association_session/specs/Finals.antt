@@ -1,5 +1,5 @@
 -- Requests, and the responses that they have (PS3.7, 9.3).
-use Rattle.std.specs.Prelude.{◌≡◌, ◌⊎◌, ℕ, Bool, true, false, List, [], ◌∷◌, ◌++◌, length, Option, Some, None}
+use Rattle.std.specs.Prelude.{◌≡◌, ◌⊎◌, ℕ, Bool, true, false, List, [], ◌∷◌, ◌++◌, length, Option, Some, None, IsSome}
 use Rattle.pdu.specs.declared.value.Pdu.{Pdu}
 use Rattle.pdu.specs.declared.value.Pdu.TheVariants.{AssociateRq, AssociateAc, AssociateRj, PData, ReleaseRq, ReleaseRp}
 use Rattle.pdu.specs.declared.value.Pdu.TheVariants.{Abort}
@@ -8,8 +8,8 @@ use Rattle.ul_state.specs.declared.table.State.{State}
 use Rattle.ul_state.specs.declared.table.State.TheVariants.{Sta1, Sta2, Sta6, Sta13}
 use Rattle.ul_state.specs.declared.titles.Title.{Title}
 use Rattle.data_set.specs.declared.syntax.Syntax.{Syntax}
-use Rattle.dictionary.specs.declared.commands.TheConstants.{C_GET_RQ}
 use Rattle.dimse.specs.declared.message.Message.{Message}
+use Rattle.dimse.specs.Response.{response_code, told_instance}
 use Rattle.dimse.specs.Sending.{IsSending}
 use Rattle.dimse.specs.Status.{status_code}
 use Rattle.pdu.specs.declared.context.Context.{Context}
@@ -74,9 +74,13 @@ selecting contexts a selected left rs = record {
   carried = carried_of contexts left rs;
 }
 
--- a response to a request, on its context: a pending one, or the last; its counts add up to what was selected
+-- a response to a request, on its context, of its operation, class and instance: a pending one, or the last; its counts
+-- add up to what was selected
 pub record RespondsTo (a : Awaited) (selected : Option ℕ) (pending : Bool) (m : Message) : Type 0 where
   pub context : m.context ≡ a.context
+  pub field : m.command.field ≡ response_code a.command.field
+  pub affected_class : m.command.affected_class ≡ a.command.affected_class
+  pub affected_instance : m.command.affected_instance ≡ told_instance a.command
   pub id : m.command.responded_to ≡ a.command.message_id
   pub status : Status
   pub is : m.command.status ≡ Some (status_code status)
@@ -102,11 +106,11 @@ SendsLast r Behind pdus = (m : Message) × RespondsTo r.awaited r.selected false
     × IsSending m r.awaited.limit first × Behind rest × (pdus ≡ first ++ rest)
 
 -- Each of these requests has one last response, in order, behind what is on the way to it, and nothing else is sent; to
--- the last of them it may be open.
-abbrev pub AreResponded : (Awaited → Type 0) → List Requested → List Pdu → Type 0
+-- the last of them it may be open, by how many instances that selected.
+abbrev pub AreResponded : (Option ℕ → Type 0) → List Requested → List Pdu → Type 0
 AreResponded Open [] pdus = pdus ≡ []
 AreResponded Open (r ∷ requests) pdus = (ms : List Message) × SendsOnTheWay r r.carried ms
-    (λ rest. SendsLast r (AreResponded Open requests) rest ⊎ ((requests ≡ []) × (rest ≡ []) × Open r.awaited)) pdus
+    (λ rest. SendsLast r (AreResponded Open requests) rest ⊎ ((requests ≡ []) × (rest ≡ []) × Open r.selected)) pdus
 
 -- ---- the requests
 
@@ -227,10 +231,10 @@ open_in contexts (Some sub) rs requests =
 abbrev pub EndsInCall : List Deed → Type 0
 EndsInCall ds = (front : List Deed) × (call : Call) × (ds ≡ front ++ Ask call ∷ [])
 
--- The last response may be open where its call has no reply yet; and to a C-GET, whose sub-operations go on, or whose
--- association ended before.
-abbrev pub IsOpen : List Deed → Awaited → Type 0
-IsOpen ds a = EndsInCall ds ⊎ (a.command.field ≡ C_GET_RQ)
+-- The last response may be open where its call has no reply yet; and to a C-GET that selected instances, whose
+-- sub-operations go on, or whose association ended before.
+abbrev pub IsOpen : List Deed → Option ℕ → Type 0
+IsOpen ds selected = EndsInCall ds ⊎ IsSome selected
 
 -- Each request that was heard has one last response, unless it is open.
 abbrev pub HasResponses : List (Title View) → Within → Option SubOperation → List Heard → List Reply → List Deed

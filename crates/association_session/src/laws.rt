@@ -55,8 +55,9 @@ pub fn a_response_stands_behind_its_call()
 
 /// Each request that was heard has one last response, in order, behind its pending ones and the
 /// sub-operations that it brings, and no other P-DATA-TF is sent. Only the last of them may have
-/// none: where its call has no reply yet, and a C-GET whose sub-operations go on, or whose
-/// association ended before.
+/// none: where its call has no reply yet, and a C-GET that selected instances, whose
+/// sub-operations go on, or whose association ended before. A response is of the operation, the
+/// class and the instance of its request.
 ///
 /// In every response to a C-GET whose sub-operations are performed the completed, failed, warning
 /// and remaining ones add up to the instances that the port replied; no other response counts any.
@@ -72,9 +73,9 @@ pub fn each_request_has_one_response()
         HasResponses titles w None heard replies deeds }
 {}
 
-/// Behind each call for a query stand its answers, and nothing between: a response for each row,
-/// each with FF01H where a key of the query is not supported and else with FF00H, one response
-/// behind them, and then the gate.
+/// Behind each call for a query stand its answers, and nothing between: a response for each row
+/// that is told, each with FF01H where a key of the query is not supported and else with FF00H, one
+/// response behind them, and then the gate. Which rows these are `Talks` says.
 pub fn no_row_of_a_partial_query_is_a_full_one()
     ensures { (titles : List (Title View)) (w : Within) (sub : Option SubOperation)
         (heard : List Heard) (replies : List Reply) (deeds : List Deed) →

@@ -92,15 +92,15 @@ impl Session {
         self.association.state()
     }
 
-    /// Whether rows are told on, or what is left of a P-DATA-TF is heard on, by
-    /// `SessionEvent::GoesOn`.
+    /// Whether rows are told on, sub-operations are begun, or what is left of a P-DATA-TF is heard
+    /// on, by `SessionEvent::GoesOn`.
     pub fn goes_on(&self) -> bool
         ensures { result ≡ is_in_turn self.now.association GoesOn }
     {
         self.association.is_in_turn(&SessionEvent::GoesOn)
     }
 
-    /// Whether rows are told on.
+    /// Whether rows are told on, or sub-operations begun.
     pub fn is_telling(&self) -> bool
         ensures { result ≡ tells_rows self.now.association.awaited }
     {
@@ -122,8 +122,8 @@ impl Session {
     }
 
     /// Takes an event of the acceptor, or the port's reply to the call that was asked last, or
-    /// tells some of the rows that are left, or hears on what is left of a P-DATA-TF: up to the
-    /// end of one message.
+    /// tells some of the rows that are left, or begins one of the sub-operations that are left, or
+    /// hears on what is left of a P-DATA-TF: up to the end of one message.
     ///
     /// The deeds are for the caller to do in order. Where they end with a call, what comes next is
     /// its reply.
