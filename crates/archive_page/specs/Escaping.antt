@@ -18,7 +18,7 @@ is_control_byte b = nat_lt b 32 || (b == 127)
 abbrev pub is_plain : ℕ → Bool
 is_plain b = not (is_control_byte b || (is_delimiter b || (b == 38)))
 
--- a plain byte, or else the reference that stands for it: `&#x`, two hexadecimal digits, and `;` (HTML, 13.5)
+-- a plain byte, or else the reference that stands for it: `&#x`, two hexadecimal digits, and `;` (HTML, 13.1.4)
 unfoldable pub escape_byte : ℕ → List ℕ
 escape_byte b =
     cond (is_plain b) (b ∷ []) (38 ∷ 35 ∷ 120 ∷ digit_char (b / 16) ∷ digit_char (b % 16) ∷ 59 ∷ [])
@@ -47,6 +47,6 @@ read_from zero (b ∷ text) =
     cond (b == 38) (cond (is_reference text) (option_map (λ t. referred text ∷ t) (read_from 5 text)) None)
     (option_map (λ t. b ∷ t) (read_from 0 text))
 
--- what is read of HTML that is text alone
+-- what is read of HTML that is text alone, each reference as its byte, also that to 0, which HTML replaces
 abbrev pub read_back : List ℕ → Option (List ℕ)
 read_back text = read_from 0 text

@@ -1,4 +1,4 @@
--- The links between the pages of what a search finds.
+-- The links between the pages of what a search finds, and the paths of the pages of studies.
 use Rattle.std.specs.Prelude.{ℕ, ◌+◌, ◌-◌, ◌/◌, List, [], ◌++◌, Bool, ◌==◌, nat_lt, cond, length, codes}
 use Rattle.std.specs.Fmt.{decimal}
 use Rattle.form_urlencoded.specs.Form.{byte_serialize}

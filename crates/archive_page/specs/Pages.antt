@@ -6,7 +6,8 @@ use Rattle.archive_page.specs.declared.subject.Subject.{Subject}
 use Rattle.archive_page.specs.declared.subject.Form.TheVariants.{Json}
 use Rattle.archive_page.specs.Subjects.{title_of, path_of}
 
--- what stands above the table: the title, links to all pages, and the title again as the heading of the page
+-- what stands above the table: the title, links to all pages but those of single studies, and the title again as the
+-- heading of the page
 unfoldable pub above_table : Subject → List ℕ
 above_table subject = HEAD ++ title_of subject ++ LINKS ++ title_of subject ++ codes "</h1>\n"
 

@@ -23,7 +23,7 @@ fn digit(value: u8) -> u8
     if value < 10 { 48 + value } else { 87 + value }
 }
 
-/// Puts a byte, or the reference that stands for it (HTML, section 13.5).
+/// Puts a byte, or the reference that stands for it (HTML, section 13.1.4).
 #[tactic(auto, unfolding(crate::specs::Escaping::escape_byte))]
 fn put_byte(out: &mut Vec<u8>, byte: u8) -> Result<(), AllocError>
     ensures { OnOk result (out.new.items ≡ out.old.items ++ escape_byte byte) }

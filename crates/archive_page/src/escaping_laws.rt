@@ -7,7 +7,8 @@ ghost use Rattle.archive_page.specs.Characters.{text_of as text_in};
 ghost use Rattle.archive_page.specs.Escaping.{escaped, is_delimiter, is_control_byte, read_back};
 
 /// In what is escaped there is no quotation mark, no `<`, no `>` and no control character, each `&`
-/// begins a reference, and it reads back as the text of the value.
+/// begins a reference, and with each reference read as its byte it is the text of the value. HTML
+/// reads another character of the reference to a zero byte.
 pub fn what_is_escaped_makes_no_markup()
     ensures no_delimiter { (value : List ℕ) →
         IsTrue (list_all (λ b. not (is_delimiter b)) (escaped value)) }

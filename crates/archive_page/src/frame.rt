@@ -1,4 +1,4 @@
-//! What stands around a table: the head of a page, its links, and its end (HTML, section 4).
+//! What stands around tables: the head of a page, its links, titles, and its end (HTML, section 4).
 
 /// Up to the title.
 pub(crate) const HEAD: [u8; 181] = *b"\
@@ -10,7 +10,7 @@ pub(crate) const HEAD: [u8; 181] = *b"\
 <link rel=\"stylesheet\" href=\"/style.css\">\n\
 <title>";
 
-/// Behind the title, up to the heading: the links to all pages.
+/// Behind the title, up to the heading: the links to all pages but those of single studies.
 pub(crate) const LINKS: [u8; 207] = *b"\
 </title>\n\
 </head>\n\

@@ -1,4 +1,4 @@
-//! The links between the pages of what a search finds.
+//! The links between the pages of what a search finds, and the paths of the pages of studies.
 
 ghost use Rattle.std.specs.Prelude.{◌≡◌, ◌++◌, IfOk, OnOk};
 ghost use Rattle.form_urlencoded.specs.Form.{byte_serialize as serialized};

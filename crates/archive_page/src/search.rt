@@ -174,7 +174,7 @@ fn page(text: &[u8]) -> Result<u32, SearchFault>
 
 impl Search {
     /// The search that a query says, or the first that holds of: a key has a name that no search
-    /// has; the page is no number. Of two keys of one name the first counts.
+    /// has; the page is no number from 1 to 999999999. Of two keys of one name the first counts.
     pub fn read(alloc: Global, query: &[u8]) -> Result<Search, SearchFault>
         ensures search { Gives is_memory (λ search. search) result (search_in query.now) }
     {

@@ -15,7 +15,7 @@ pub enum Subject {
     /// The contents of each flagged UID.
     Conflicts,
     Corrections,
-    /// One study, which the path names behind that of this subject.
+    /// One study, which the path names behind `/study/`.
     Study,
 }
 

@@ -40,6 +40,7 @@ pub parts : (made : Made) (text : List ℕ) (found : Option (Bor (List ℕ) × B
 parts made text found is splits e = split_after 32 text (decimal made.counter) (decimal made.site) found splits (omega arith)
     e (no_space (decimal made.counter) (decimal_is_IsNumeral made.counter is.0).0.1)
 
+-- the number that was read, or 0
 ok_of : {E : Type 0} → Result ℕ E → ℕ
 ok_of (Ok number) = number
 ok_of (Err fault) = 0

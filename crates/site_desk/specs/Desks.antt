@@ -33,7 +33,7 @@ pub record AtDesk : Type 0 where
   pub last : ℕ
 
 -- A desk afterwards: its pass has gone on, what became its own was written to the shelf's ledger, of which no less is
--- known, and no counter that it has made comes again.
+-- known, and its greatest counter is no less: what comes next is behind it.
 pub record GoesOn (before after : AtDesk) : Type 0 where
   pub onward : IsOnward (WasWritten after.known) before.pass after.pass
   pub known : IsPrefix before.known after.known
@@ -80,7 +80,7 @@ ComesTo opening before request after (Ok made) =
     (change : Change) × Asks request change × Makes opening before change after made
 ComesTo opening before request after (Err fault) = MakesNone opening before (Asks request) after fault
 
--- what holds up a correction that may be made: memory, workers that do not agree, the shelf, or the hub
+-- what holds up a correction that may be made: memory, a site that is busy, the shelf, or the hub
 abbrev pub IsHeldUp : DeskFault → Type 0
 IsHeldUp fault = (fault ≡ Memory) ⊎ (fault ≡ Busy) ⊎ (fault ≡ Shelf) ⊎ (fault ≡ Unshown)
 

@@ -1,4 +1,4 @@
--- Why the desk makes no correction: in words, and by its status.
+-- Why the desk makes no correction, or does not show it yet: in words, and by its status.
 use Rattle.std.specs.Prelude.{ℕ, List, codes}
 use Rattle.site_desk.specs.declared.answer.Status.{Status}
 use Rattle.site_desk.specs.declared.answer.Status.TheVariants.{BadRequest, NotFound, MethodNotAllowed, Conflict}
@@ -24,7 +24,7 @@ words_of BadValue = codes "VALUE is longer than 64, or has a byte or an outer sp
 words_of NoSite = codes "the site has no number"
 words_of StampsSpent = codes "the last counter of stamps is used"
 words_of Shelf = codes "the shelf refused the correction"
-words_of Busy = codes "its workers do not agree on what it has: try again"
+words_of Busy = codes "the site is busy, or its workers do not agree: try again"
 words_of Unshown = codes "it is stored, and shown once the site is started again at the latest"
 words_of Memory = codes "memory was refused"
 

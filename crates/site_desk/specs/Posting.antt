@@ -1,7 +1,7 @@
 -- What a request at the desk says.
 use Rattle.std.specs.Prelude.{◌≡◌, ◌⊎◌, ℕ, List, Some, None, Bool, Result, Ok, Err, ◌==◌, cond, take, codes}
 use Rattle.std.specs.List.{position_or_len}
-use Rattle.std.specs.Str.{IsUtf8}
+use Rattle.std.specs.Str.{IsUtf8, str_eq_ignore_ascii_case}
 use Rattle.form_urlencoded.specs.Form.{raw_pairs}
 use Rattle.json.specs.Json.{document}
 use Rattle.octets.specs.Padding.{trimmed}
@@ -27,11 +27,11 @@ pub record Posting : Type 0 where
 abbrev pub type_in : List ℕ → List ℕ
 type_in media = trimmed (take (position_or_len (λ b. b == 59) media) media)
 
--- what words stand in, by the media type
+-- what words stand in, by the media type, in letters of any size
 abbrev pub kind_in : List ℕ → Result Kind DeskFault
 kind_in media =
-    cond (same (type_in media) (codes "application/x-www-form-urlencoded")) (Ok Form)
-    (cond (same (type_in media) (codes "application/json")) (Ok Object) (Err NoKind))
+    cond (str_eq_ignore_ascii_case (type_in media) (codes "application/x-www-form-urlencoded")) (Ok Form)
+    (cond (str_eq_ignore_ascii_case (type_in media) (codes "application/json")) (Ok Object) (Err NoKind))
 
 -- what the words of a request stand in, or the first reason why it asks for no correction
 abbrev pub kind_asked : Posting → Result Kind DeskFault

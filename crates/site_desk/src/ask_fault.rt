@@ -15,11 +15,11 @@ pub enum AskFault {
     NoAnswer,
     #[error("there is no memory left")]
     Memory,
-    /// The desk made no correction, for this reason.
+    /// The desk refused, for this reason. For `Unshown` alone the correction is stored.
     #[error("the desk refused")]
     Refused(DeskFault),
-    /// The site cannot tell it now, as where memory is refused or its workers do not agree on what
-    /// it has: a page of status 503 (RFC 9110, section 15.6.4).
+    /// The site cannot tell it now, as where memory is refused, or where it is busy: a page of
+    /// status 503 (RFC 9110, section 15.6.4).
     #[error("the site cannot tell it now")]
     Unready,
     /// The desk could not say what came of the correction: memory was refused for its answer, which

@@ -3,6 +3,7 @@
 
 ghost use Rattle.std.specs.Prelude.{◌≡◌, ◌==◌, take};
 ghost use Rattle.std.specs.List.{position_or_len};
+ghost use Rattle.std.specs.Str.{str_eq_ignore_ascii_case};
 ghost use Rattle.octets.specs.Texts.{same};
 ghost use Rattle.site_desk.specs.Posting.{type_in, kind_in, kind_asked};
 
@@ -41,15 +42,23 @@ fn type_of(media: &[u8]) -> &[u8]
     trimmed(front(media))
 }
 
-/// What words stand in, by the media type. It is spelled in small letters, as clients do.
+/// Whether both name one media type, which is spelled in letters of any size (RFC 9110, section
+/// 8.3.1).
+fn is_type(text: &[u8], word: &[u8]) -> bool
+    ensures { result ≡ str_eq_ignore_ascii_case text.now word.now }
+{
+    text.eq_ignore_ascii_case(word)
+}
+
+/// What words stand in, by the media type.
 fn kind_of(media: &[u8]) -> Result<Kind, DeskFault>
     ensures { result ≡ kind_in media.now }
 {
     let text = type_of(media);
-    if is(text, b"application/x-www-form-urlencoded") {
+    if is_type(text, b"application/x-www-form-urlencoded") {
         return Ok(Kind::Form);
     }
-    if is(text, b"application/json") {
+    if is_type(text, b"application/json") {
         return Ok(Kind::Object);
     }
     Err(DeskFault::NoKind)

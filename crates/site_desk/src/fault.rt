@@ -1,4 +1,4 @@
-//! Why the desk makes no correction.
+//! Why the desk makes no correction, or that the hub does not show yet the one that is stored.
 
 ghost use Rattle.std.specs.Prelude.{◌≡◌};
 ghost use Rattle.site_desk.specs.Faults.{words_of, status_of};
@@ -7,7 +7,7 @@ use crate::answer::Status;
 use std::alloc::AllocError;
 use thiserror::Error;
 
-/// Why the desk makes no correction.
+/// Why the desk makes no correction, or that the hub does not show yet the one that is stored.
 #[derive(Clone, Copy, Debug, PartialEq, Eq, Error)]
 pub enum DeskFault {
     #[error("nothing has this path")]
@@ -79,7 +79,7 @@ impl DeskFault {
             DeskFault::NoSite => "the site has no number",
             DeskFault::StampsSpent => "the last counter of stamps is used",
             DeskFault::Shelf => "the shelf refused the correction",
-            DeskFault::Busy => "its workers do not agree on what it has: try again",
+            DeskFault::Busy => "the site is busy, or its workers do not agree: try again",
             DeskFault::Unshown =>
                 "it is stored, and shown once the site is started again at the latest",
             DeskFault::Memory => "memory was refused",

@@ -4,8 +4,9 @@
 //! Its stamp comes next over what a look of the pass sees, and over what this desk has made: so no
 //! two corrections of a desk have one stamp, also where the hub has not taken the first yet. The
 //! connection (HTTP, RFC 9112) is the kit's, which refuses with a status of 4xx or 5xx what is no
-//! request; one request is answered on it, so that no peer holds the thread beyond its request.
-//! What a request says are four words, as `archive correct` has them.
+//! request. An answer ends it, so that no peer holds the thread beyond its request; a 503 without
+//! words, which takes no memory, does not. What a request says are four words, as `archive correct`
+//! has them.
 //!
 //! Who asks a running site is here too: the requests for a correction and for a page, and what
 //! their answers tell.

@@ -102,15 +102,14 @@ pub(crate) fn publish<H: HubName, T: Shows<H>, R: Wait + Drop, S: Wait, N: Ledge
     keeper: &Mutex<Keeper<H, T, R>>,
     pass: &mut Pass<H>,
     op: RecordedOp,
-    shelved: &Shelved<N>,
+    _shelved: &Shelved<N>,
 ) -> Result<(), DeskFault>
-    requires { shelved.now.digest ≡ digest_of op }
+    requires { _shelved.now.digest ≡ digest_of op }
     ensures shown { OnOk result (EndsWith pass.new.seen (entry_of pass.old.number op)) }
     ensures mine { OnOk result (pass.new.mine ≡ pass.old.mine ++ digest_of op ∷ []) }
-    ensures onward { IsOnward (WasWritten shelved.now.extract) pass.old pass.new }
+    ensures onward { IsOnward (WasWritten _shelved.now.extract) pass.old pass.new }
     ensures unshown { IfErr result (λ fault. fault ≡ Unshown) }
 {
-    let _ = &shelved.digest;
     match store(rt, keeper, pass, op) {
         Ok(_told) => Ok(()),
         Err(_fault) => Err(DeskFault::Unshown),

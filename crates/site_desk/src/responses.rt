@@ -26,7 +26,8 @@ fn status_code(status: Status) -> StatusCode
     }
 }
 
-/// Puts the fields that say what the line is, and that end the connection.
+/// Puts the fields that say what the line is, that it is of this moment and which method there is,
+/// and that end the connection.
 fn put_fields(response: &mut Response) -> Result<(), AllocError>
     ensures fields { OnOk result (fields_of response.new ≡ fields_of response.old ++ line_fields) }
     ensures status { response.new.status ≡ response.old.status }

@@ -20,7 +20,8 @@ association_end (Ok Aborted) false = association.Aborted
 association_end (Ok Closed) false = association.Closed
 association_end (Ok Dropped) false = association.Dropped
 
--- an exchange that was not broken off is counted by whether it went to its end, and then by whether both sides agreed
+-- an exchange that was not broken off is counted by whether all that was asked for was given, and then by whether
+-- both sides agreed
 abbrev pub exchange_end : Ended → ExchangeEnd
 exchange_end ended =
     if ended.finished then (if ended.agreed then exchange.Agreed else exchange.NotAgreed) else exchange.Unfinished

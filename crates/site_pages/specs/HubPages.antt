@@ -39,6 +39,6 @@ says_from opening = record {
   samples_of = λ source. source.samples;
 }
 
--- a request is answered with what one look at the running site tells of what it asks for
+-- a request is answered with what one look at the running site at most tells of what it asks for
 abbrev pub AnswersFrom : Map → HubSource → Request (List ℕ) → Response → HubSource → Type 0
 AnswersFrom opening old request response new = IsAnswered (says_from opening) old request response new

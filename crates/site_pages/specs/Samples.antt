@@ -30,7 +30,7 @@ labelled_in f label text value = record {
   value = value;
 }
 
--- how many operations of each kind are held, and whether the shelf takes more
+-- how many operations of each kind are held, and whether the shelf did not refuse the last put
 unfoldable pub held_samples : Reading → List Sample
 held_samples reading =
     labelled_in family.Operations (codes "kind") (codes "content") reading.contents

@@ -13,7 +13,7 @@ pub enum AssociationEnd {
     Rejected,
     /// The stream ended, or the connection was closed, with none of these.
     Closed,
-    /// The peer did not close.
+    /// The peer was to close, and sent on: all was read that is read then.
     Dropped,
     Fault,
 }
@@ -64,7 +64,7 @@ impl AssociationEnds {
 pub enum ExchangeEnd {
     /// All that was asked for was given, and both sides agreed.
     Agreed,
-    /// All that was asked for was given, and they did not: one holds what the other does not.
+    /// All that was asked for was given, and they did not: what they compared differed.
     NotAgreed,
     /// Not all that was asked for was given.
     Unfinished,

@@ -77,7 +77,7 @@ impl Family {
     {
         match self {
             Family::Operations => b"Operations that the site holds.",
-            Family::TakesOperations => b"1 where the last put to the disk was taken, else 0.",
+            Family::TakesOperations => b"0 where the last put to the disk was refused, else 1.",
             Family::Associations => b"Associations that have ended, by how.",
             Family::Stores =>
                 b"Stores of ended associations: of what was new or known, or refused.",
@@ -87,8 +87,9 @@ impl Family {
             Family::GetImages => b"Images that these retrievals were prepared with.",
             Family::ExchangesServed => b"Exchanges with peers that called, by how they ended.",
             Family::ExchangesCalled => b"Exchanges with peers that were called, by how they ended.",
-            Family::OperationsGiven => b"Operations that exchanges gave.",
-            Family::OperationsTaken => b"Operations that exchanges took and that were new.",
+            Family::OperationsGiven => b"Operations that exchanges gave which were not broken off.",
+            Family::OperationsTaken =>
+                b"New operations that exchanges took which were not broken off.",
             Family::WorkersBusy => b"Threads that serve an association or an exchange now.",
             Family::Uptime => b"Seconds since the server began.",
             Family::ResidentMemory => b"Bytes of memory that the process has resident.",

@@ -18,7 +18,7 @@ use std::io;
 use std::io::{Read, Write};
 
 /// Answers what is asked for on a connection from looks at the running site, each request with what
-/// one look tells, and hands the source back: its pass has looked, and done nothing else.
+/// one look at most tells, and hands the source back: its pass has looked, and done nothing else.
 pub fn serve_hub_pages<'a, H: HubName, R: Read, W: Write>(
     alloc: Global,
     keys: RandomState,

@@ -3,8 +3,9 @@
 //!
 //! A look of a pass takes what a page is made of and ends; it waits for nobody and changes nothing.
 //! Rows, texts and markup are made behind it, so that no publish waits for them. The connection
-//! (HTTP, RFC 9112) is the kit's, which refuses with a status of 4xx or 5xx what is no request; one
-//! request is answered on it, so that no peer holds the thread beyond its request.
+//! (HTTP, RFC 9112) is the kit's, which refuses with a status of 4xx or 5xx what is no request. An
+//! answer ends it, so that no peer holds the thread beyond its request; a 503 without words, which
+//! takes no memory, does not.
 //!
 //! What a server counts is here too: what has ended comes in, and numbers go out, without a clock.
 //! A number that would overrun stays at the greatest that a u64 has. A second is one of the server:

@@ -37,7 +37,8 @@ fn status_code(status: Status) -> StatusCode
     }
 }
 
-/// Puts the fields that say what the text is, and that it is of this moment.
+/// Puts the fields that say what the text is, that it is of this moment, and which methods there
+/// are.
 fn put_kind(response: &mut Response, media: Media) -> Result<(), AllocError>
     ensures fields { OnOk result
         (fields_of response.new ≡ fields_of response.old ++ kind_fields media) }
@@ -51,7 +52,8 @@ fn put_kind(response: &mut Response, media: Media) -> Result<(), AllocError>
     response.add_header(HeaderName::from_static("allow"), methods)
 }
 
-/// Puts the fields that let a page load its style sheet alone, and that end the connection.
+/// Puts the fields that let a page load its style sheet alone and no other type be guessed, and
+/// that end the connection.
 fn put_guards(response: &mut Response) -> Result<(), AllocError>
     ensures fields { OnOk result
         (fields_of response.new ≡ fields_of response.old ++ guard_fields) }

@@ -29,7 +29,7 @@ pub struct Reading {
     /// How many contents the site holds, and how many corrections.
     pub contents: u64,
     pub corrections: u64,
-    /// Whether its shelf took what it was given last.
+    /// Whether its shelf did not refuse what it was given last.
     pub takes: bool,
     /// How many seconds ago the server began.
     pub now: u64,
@@ -72,7 +72,7 @@ fn labelled(
     })
 }
 
-/// How many operations of each kind are held, and whether the shelf takes more.
+/// How many operations of each kind are held, and whether the shelf did not refuse the last put.
 #[tactic(auto, unfolding(crate::specs::Samples::held_samples))]
 fn of_site(alloc: Global, reading: Reading) -> Result<Vec<Sample>, AllocError>
     ensures { IfOk result (λ samples. samples.items ≡ held_samples reading) }

@@ -15,8 +15,8 @@ use octets::{ListOf, Octets};
 use std::alloc::{AllocError, Global};
 
 /// Why a search by this date is refused.
-const BAD_DATE: [u8; 71] =
-    *b"A study date is YYYYMMDD, or a range of two such with a - between them.";
+const BAD_DATE: [u8; 87] =
+    *b"A study date is YYYYMMDD, or a range: two such with a - between, or one with a - at it.";
 
 /// What a query for studies says.
 #[derive(Drop)]
