@@ -83,12 +83,3 @@ pub shelf_refused : {P : Type 0} (refuses : P → P → List ℕ → ShelfFault 
     → RefusesLoadOf (IsLent (Some before)) refuses has_loaded asked fault
 shelf_refused refuses has_loaded before after asked cause fault refused told =
     inl (record { before = before; named = refl; after = after; cause = cause; refused = refused; told = told })
-
--- What the way that was lent refused is refused by it under each name of it.
-pub refused_as_lent : {P : Type 0} (refuses : P → P → List ℕ → ShelfFault → Type 0)
-    (has_loaded : P → P → List ℕ → Option Op → Type 0) (lent : Option P) (way : P) (asked : ContentRecordParts)
-    (answer : Result ContentParts PortFault) → IsLent lent way
-    → IfErr answer (RefusesLoadOf (IsLent (Some way)) refuses has_loaded asked)
-    → IfErr answer (RefusesLoadOf (IsLent lent) refuses has_loaded asked)
-refused_as_lent {P} refuses has_loaded lent way asked answer is why =
-    subst (λ (l : Option P). IfErr answer (RefusesLoadOf (IsLent l) refuses has_loaded asked)) (sym is) why

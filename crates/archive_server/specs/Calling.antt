@@ -1,4 +1,4 @@
--- How a peer is called, again and again.
+-- How a peer is called again and again, and how a thread goes on as long as somebody serves.
 use Rattle.std.specs.Prelude.{◌≡◌, ℕ, zero, suc, Bool, true, false, List, [], ◌∷◌, ◌++◌, Option, Some, None}
 use Rattle.std.specs.List.{flat_map}
 use Rattle.std.specs.declared.time.Duration.{Duration}

@@ -38,7 +38,7 @@ word_of Get = codes "get"
 -- what a site refuses for
 abbrev pub words_of_site : PortFault → List ℕ
 words_of_site site.Memory = codes "memory was refused"
-words_of_site site.Busy = codes "another worker has the site"
+words_of_site site.Busy = codes "the site was busy"
 words_of_site site.Collision = codes "another operation has its digest"
 words_of_site site.Shelf = codes "it could not be kept"
 
@@ -54,8 +54,8 @@ abbrev pub words_of : Why → List ℕ
 words_of (Site fault) = words_of_site fault
 words_of (Shelf fault) = words_of_shelf fault
 
--- The hub refused to publish: that is never told as a failure of the shelf, and that another has the site only where it
--- was counted.
+-- The hub refused to publish: that is never told as a failure of the shelf, and as a busy site only where that was
+-- counted.
 pub record RefusesAsHub (before after : Seat) (fault : PortFault) : Type 0 where
   pub own : fault ≢ site.Shelf
   pub busy : fault ≡ site.Busy → Rose before.refused after.refused

@@ -1,4 +1,4 @@
--- How long is waited for who asks for a page, and how long a page was made.
+-- How long is waited for who asks for a page, or comes to correct, and how long a page was made.
 use Rattle.std.specs.Prelude.{◌-◌, ◌*◌, ◌/◌, ℕ, min, Option, Some, None}
 use Rattle.core.specs.Duration.{as_nanos}
 use Rattle.std.specs.declared.time.Duration.{Duration}

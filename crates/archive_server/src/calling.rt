@@ -1,11 +1,11 @@
-//! When a peer is called again: behind each call, whatever came of it, so long is waited.
+//! When a thread goes on: behind each call of a peer, or each accept, so long is waited.
 
 ghost use Rattle.std.specs.Prelude.{[], ◌∷◌, List, Option};
 ghost use Rattle.archive_server.specs.Calling.{Turn, Calls as ACall, Waits as AWait, Went};
 
 use std::time::Duration;
 
-/// What a thread that calls a peer is told, and where it waits.
+/// What a thread that calls a peer, or answers who comes, is told, and where it waits.
 pub(crate) trait Pauses {
     // What was done so far, in order, where it is kept.
     ghost turns: { Self → Option (List Turn) };

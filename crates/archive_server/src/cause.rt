@@ -13,7 +13,7 @@ fn words_of_store(cause: StoreCause) -> &'static str
         StoreCause::Failed => "the disk failed",
         StoreCause::Closed => "the disk failed before, and it was closed",
         StoreCause::Damaged => "it is damaged",
-        StoreCause::Other => "its database refused",
+        StoreCause::Other => "it refused for another cause",
     }
 }
 

@@ -25,8 +25,8 @@ use std::sync::Wait;
 use std::sync::atomic::Ordering;
 use std::time::Clock;
 
-/// Where exchanges come in, and how many connections are served, by all workers of exchanges
-/// together.
+/// Where exchanges come in, and how often is accepted, by all workers of exchanges together, also
+/// where that fails or a peer is turned away.
 #[derive(Clone, Copy)]
 pub struct Exchanging<'a> {
     pub entrance: Entrance<'a>,
@@ -107,7 +107,8 @@ fn with_peer<'x, H: HubName, T: Shows<H>, R: Wait + Drop, S: Wait + Clock + Log,
     done
 }
 
-/// Accepts once. An accept that fails is used up as well, and a turn is rested behind it.
+/// Accepts once. An accept that fails is used up as well, and a turn is rested behind it unless the
+/// server was ended.
 fn next_exchange<H: HubName, T: Shows<H>, R: Wait + Drop, S: Wait + Clock + Log, N: LedgerName>(
     hall: &Hall<'_, H, T, R, S>,
     entrance: Entrance<'_>,

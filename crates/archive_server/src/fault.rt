@@ -11,7 +11,7 @@ use exchange::ExchangeFault;
 pub enum NetFault {
     /// To listen at an address.
     Listen,
-    /// To accept an association or an exchange.
+    /// To accept an association, an exchange, who came for a page or who came to correct.
     Accept,
     /// To connect to a peer.
     Connect,

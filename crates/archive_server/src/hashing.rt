@@ -77,7 +77,7 @@ fn hash_all<S: Wait>(rt: &S, requests: &Receiver<Hashing>, recent: &Mutex<Recent
     unreachable!()
 }
 
-/// One for each processor, where there are several.
+/// One for each processor, where there are several, and `MOST` at most.
 fn wanted<S: Threads>(rt: &S) -> usize {
     match available_parallelism(rt) {
         Ok(processors) if processors.get() > 1 => processors.get().min(MOST),

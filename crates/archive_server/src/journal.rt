@@ -1,5 +1,8 @@
-//! The lines of a server on standard error: one for each association and each exchange where they
-//! are asked for, and always one for an accept that failed, or where the archive wanted memory.
+//! The lines of a server on standard error: where they are asked for, one for each association,
+//! exchange, page and correction, for each peer that is not reached or turned away, and each store
+//! that is refused; always one for an accept that failed while nobody had ended the server, for an
+//! association that wanted memory, and for an exchange that the archive refused, or lacked memory
+//! for.
 //!
 //! What a peer sent is shown as printable ASCII, so that no peer makes a line of its own. A line
 //! that standard error refuses is dropped.
@@ -128,7 +131,7 @@ pub(crate) struct Finish {
     pub came: Option<Abort>,
 }
 
-/// By whom it was aborted, and why.
+/// By whom it was aborted first, and why: once the peer has, the archive sends nothing any more.
 #[derive(Clone, Copy)]
 struct Aborted {
     sent: Option<Abort>,
@@ -137,11 +140,11 @@ struct Aborted {
 
 impl Display for Aborted {
     fn fmt<W: fmt::Write>(&self, f: &mut Formatter<W>) -> fmt::Result {
-        if let Some(abort) = self.came {
-            return write!(f, "aborted by the peer {abort}");
+        if let Some(abort) = self.sent {
+            return write!(f, "aborted by the archive {abort}");
         }
-        match self.sent {
-            Some(abort) => write!(f, "aborted by the archive {abort}"),
+        match self.came {
+            Some(abort) => write!(f, "aborted by the peer {abort}"),
             None => f.write_str("aborted"),
         }
     }
@@ -299,7 +302,8 @@ pub(crate) fn tell_exchange<S: Clock + Log>(
     info!(rt; target: "exchange", "{moment} {way} {peer} {outcome}{broken}");
 }
 
-/// Tells that a peer that was called is not reached, or did not answer in time, likewise.
+/// Tells that a peer that was called is not reached, or did not answer in time, where lines are
+/// asked for.
 pub(crate) fn tell_unreached<S: Clock + Log>(
     rt: &S,
     manner: Manner<'_>,
@@ -372,7 +376,9 @@ fn words_of_status(status: u16) -> &'static str {
         STATUS_UNRECOGNIZED_OPERATION => "its presentation context is of no storage class",
         STATUS_OUT_OF_RESOURCES => "out of resources",
         STATUS_DATA_SET_DOES_NOT_MATCH => "its data set names another SOP class or instance",
-        STATUS_CANNOT_UNDERSTAND => "its data set is none that can be kept",
+        STATUS_CANNOT_UNDERSTAND => {
+            "its data set is none that can be kept, or another has its digest"
+        }
         _ => "it was refused",
     }
 }

@@ -270,8 +270,8 @@ fn serve<K: Keep, N: LedgerName, S: Wait, Q: Requests<N>>(
     }
 }
 
-/// Serves puts and loads until nobody can ask any more: the puts that wait are one group, with one
-/// sync. What is answered as put is written into the ledger.
+/// Serves puts and loads until nobody can ask any more: the puts that wait, up to the next load and
+/// as far as there is room, are put at once. What is answered as put is written into the ledger.
 pub(crate) fn keep_all<K: Keep, N: LedgerName, S: Wait, Q: Requests<N>>(
     rt: &S,
     alloc: Global,

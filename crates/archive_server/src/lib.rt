@@ -11,7 +11,7 @@
 //! listener, a thread and a pass, which only looks. The desk, at which an administrator corrects,
 //! has the same and the way to the shelf, which has what is answered with a stamp. Who serves may
 //! say how long the server waits for a peer at most, name a word by which somebody ends the server,
-//! and ask for a line on each association and exchange.
+//! and ask for a line on all that is served.
 #![tactic(auto)]
 
 mod ahead;

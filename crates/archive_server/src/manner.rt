@@ -14,12 +14,14 @@ pub struct Manner<'a> {
     pub ending: Option<&'a AtomicBool>,
     /// How long each wait for a peer lasts at most: to be connected, for a byte to come, or for
     /// room to write one. Time runs only while the server waits. Where there is none, a wait has no
-    /// end.
+    /// end. Who comes for a page, or to correct, has so long in all to ask, and so long to read,
+    /// but half a minute each at most, also where there is none.
     pub idle: Option<Duration>,
     /// How many bytes of memory the operations may hold that were put or loaded last: they are not
     /// read again while they are remembered.
     pub recent: usize,
-    /// Whether each association and each exchange is a line on standard error.
+    /// Whether what is served is told on standard error: a line for each association, exchange and
+    /// connection for a page or to the desk, and for each peer or store that is not.
     pub is_verbose: bool,
 }
 

@@ -197,8 +197,9 @@ impl<
     fn store(&mut self, content: Content) -> Result<Taken, PortFault>
         ensures stores { Stores (λ (s : Seat). ops_of (set_of H.opening s.seen))
             (λ (s : Seat). s.mine) self.old (op_in (a_content content)) result self.new }
-        // What the pass has seen published is told as taken, and what is refused the shelf or the
-        // hub refused in this call.
+        // What the pass has seen published is told as taken. A fault of the shelf is told only
+        // where the way that was lent may refuse so, and Busy only where it was counted in this
+        // call.
         ensures refused { OnErr result (self.new.seen ≡ self.old.seen) }
         ensures why { IfErr result
             (RefusesStore (IsLent E.lent) P.refuses self.old self.new (a_content content)) }

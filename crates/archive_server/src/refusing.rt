@@ -1,5 +1,5 @@
-//! The lines of what the archive itself refuses, always on standard error: a request, or an
-//! operation of a peer.
+//! The lines of what the archive itself refuses, always on standard error: a request, a load, an
+//! operation of a peer, or a correction.
 
 ghost use Rattle.std.specs.Prelude.{◌≡◌};
 ghost use Rattle.archive_server.specs.Fault.{port_fault_of};
@@ -81,7 +81,7 @@ fn words_of_site(fault: PortFault) -> &'static str
 {
     match fault {
         PortFault::Memory => "memory was refused",
-        PortFault::Busy => "another worker has the site",
+        PortFault::Busy => "the site was busy",
         PortFault::Collision => "another operation has its digest",
         PortFault::Shelf => "it could not be kept",
     }

@@ -1,5 +1,5 @@
-//! The server: a thread for each worker, for each worker of exchanges and for each peer, and the
-//! shelf in the thread that called.
+//! The server: a thread for each worker, for each worker of exchanges and for each peer, one for
+//! pages, one for the desk, some that hash, and the shelf in the thread that called.
 
 ghost use Rattle.std.specs.Prelude.{◌≡◌, ◌+◌, ◌*◌, ◌<◌, ◌≤◌, ◌⊎◌, [], min, is_some, IsSome};
 ghost use Rattle.std.specs.Prelude.{vec_len, vec_capacity};
@@ -121,7 +121,7 @@ fn serve_rest<
 /// What came of serving.
 #[derive(Drop)]
 pub struct Served<H: HubName> {
-    /// How many associations were accepted.
+    /// How many associations were accepted, with the peers that were turned away.
     pub accepted: u64,
     /// The passes, each in its place.
     pub passes: Vec<Pass<H>>,
@@ -359,9 +359,9 @@ fn serve_named<
 /// of its place. Its duties beside them: so many exchanges in all, in as many threads as is said,
 /// with the next passes; meanwhile each peer is called again and again, in a thread for each, with
 /// the passes behind; who comes for a page is answered, and who comes to correct, each in one
-/// thread, with the last passes. Threads without a pass, one for each processor, hash what a C-GET
-/// asks for next. The thread that calls keeps the shelf. Whoever may end it in this manner ends it
-/// early.
+/// thread, with the last passes. Threads without a pass, one for each of several processors and 16
+/// at most, hash what a C-GET asks for next. The thread that calls keeps the shelf. Whoever may end
+/// it in this manner ends it early.
 pub fn serve_on<
     'x,
     H: HubName + Send + Sync,

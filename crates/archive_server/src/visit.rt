@@ -1,5 +1,5 @@
-//! Who came for a page, as a reader and as a writer: it is waited for in short turns, and between
-//! these it is seen whether anybody still serves.
+//! Who came for a page, or to correct, as a reader and as a writer: it is waited for in short
+//! turns, and between these it is seen whether anybody still serves.
 
 ghost use Rattle.std.specs.Prelude.{◌≡◌, ◌*◌, min};
 ghost use Rattle.core.specs.Duration.{as_nanos};
@@ -32,7 +32,7 @@ pub(crate) fn turn() -> Duration {
     Duration::from_millis(TURN)
 }
 
-/// How many turns a wait of so long has, or one without an end.
+/// How many turns the whole seconds of a wait have, or one without an end; 120 at most.
 pub(crate) fn turns_in(idle: Option<Duration>) -> u64
     ensures turns { result ≡ turns_of idle }
 {

@@ -1,4 +1,4 @@
-//! The connection of a peer. Each wait for the peer has an end.
+//! The connection of a peer. Each wait for the peer has an end, where one is given.
 
 ghost use Rattle.std.specs.Prelude.{◌≡◌};
 
@@ -28,7 +28,8 @@ pub struct Wire {
     error: AtomicI32,
 }
 
-/// What a read or a write is cut off by, once it has waited as long as it may.
+/// What a read or a write is cut off by, once it has waited as long as it may, or as long as the
+/// system lets it.
 pub(crate) fn is_cut_off(error: &io::Error) -> bool {
     matches!(error.kind(), ErrorKind::WouldBlock | ErrorKind::TimedOut)
 }
@@ -108,7 +109,8 @@ impl Wire {
 
     /// Sends nothing any more, and reads and drops what the peer still sends until it closes, for 5
     /// seconds and 128 MiB at most. A connection that is closed while bytes come is reset by the
-    /// system, and then the peer may lose the last that was written to it.
+    /// system, and then the peer may lose the last that was written to it. Where a wait was cut
+    /// off, or no clock says the time, nothing is done.
     pub fn part<S: Clock>(&self, clock: &S) {
         let Ok(begun) = Instant::now(clock) else {
             return;

@@ -1,6 +1,6 @@
 //! A worker: it accepts so many associations on the shared listener, with a pass of its own.
 
-ghost use Rattle.std.specs.Prelude.{◌≡◌, ◌+◌, ◌-◌, ◌<◌, ◌≤◌, ◌^◌, ◌⊎◌, IsSome, is_some, true};
+ghost use Rattle.std.specs.Prelude.{◌≡◌, ◌+◌, ◌-◌, ◌<◌, ◌^◌, ◌⊎◌, IsSome, is_some, true};
 ghost use Rattle.command_words.specs.Networks.{may_come};
 ghost use Rattle.archive_server.specs.Serving.{HasGoneOn, HasServed};
 
@@ -138,7 +138,8 @@ fn with_wire<
     served
 }
 
-/// Accepts once. An accept that fails is used up as well, and a turn is rested behind it.
+/// Accepts once. An accept that fails is used up as well, and a turn is rested behind it unless the
+/// server was ended.
 fn next<H: HubName, T: Shows<H>, R: Wait + Drop, S: Wait + Clock + Log, N: LedgerName, G: Gate>(
     hall: &Hall<'_, H, T, R, S>,
     to: &Sender<Request<N>>,

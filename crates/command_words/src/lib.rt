@@ -37,8 +37,8 @@ pub struct Correcting<'a> {
     pub change: Change,
 }
 
-/// The addresses by which a machine reaches itself (RFC 6890, section 2.2.2): whoever asks for a page
-/// or corrects comes from there, where no network is named.
+/// The addresses by which a machine reaches itself (RFC 6890, section 2.2.2): whoever asks for a
+/// page or corrects comes from there, where no network is named.
 pub const LOOPBACK: &[Network] = &[Network {
     address: Ipv4Addr::LOCALHOST,
     bits: 8,
@@ -93,7 +93,8 @@ pub struct Serving<'a> {
     pub idle: u32,
     /// Whether the end of standard input ends it.
     pub ends_with_input: bool,
-    /// Whether each association and each exchange is a line on standard error.
+    /// Whether each association, each exchange and each connection for a page or to the desk is a
+    /// line on standard error, and each image that was not taken.
     pub is_verbose: bool,
 }
 

@@ -34,7 +34,8 @@ Then First Second told =
 abbrev pub BeginsWith : Frame → List Frame → Type 0
 BeginsWith frame heard = (more : List Frame) × (heard ≡ frame ∷ more)
 
--- A caller greets, offers and asks; a callee answers a HELLO, asks and offers; where version 1 is spoken nobody greets.
+-- A caller greets, offers and asks; a callee answers a HELLO, asks and offers. A callee that first hears BUCKETS, and a
+-- caller of version 1, say no HELLO.
 abbrev pub InOrder : Role → List Frame → List Frame → Type 0
 InOrder Caller heard told = Then IsHello (Then IsOffer IsAsking) told
 InOrder Callee heard told =

@@ -21,7 +21,8 @@ pub fn an_exchange_makes_holders_equal<A: Holder, B: Holder>()
 
 /// What a side says that ended is said in one order, and it says no other frame: a caller HELLO,
 /// BUCKETS, HAVE, its GIVEs, END, DIFFER and WANT; a callee HELLO where it heard one, DIFFER, WANT,
-/// BUCKETS, HAVE, its GIVEs and END. At version 1 nobody says HELLO.
+/// BUCKETS, HAVE, its GIVEs and END. A callee that first hears BUCKETS, and a caller of version 1,
+/// say no HELLO.
 pub fn a_side_says_its_frames_in_order<H: Holder>()
     ensures { SaysInOrder H.holds H.alone }
 {}

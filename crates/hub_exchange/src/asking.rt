@@ -1,6 +1,6 @@
 //! What an exchange asks of a site, in one look each.
 
-ghost use Rattle.std.specs.Prelude.{◌≡◌, IfOk};
+ghost use Rattle.std.specs.Prelude.{◌≡◌};
 ghost use Rattle.site_state.specs.Site.{held_at};
 ghost use Rattle.exchange.specs.Held.{offered, offered_in, lacked, held_of};
 

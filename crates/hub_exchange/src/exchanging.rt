@@ -53,7 +53,8 @@ fn exchange_with<E: AtOpening, K: Keep + Drop, R: Source, W: Sink>(
 /// Takes part in an exchange with a site whose operations stand on a shelf, and gives both back.
 ///
 /// The faults are those of `run_exchange`: `Refused` where the shelf refused for another cause than
-/// memory, or has another operation under an equal digest.
+/// memory, or has no operation of a record that the site holds, or where the site holds another
+/// under an equal digest.
 pub fn exchange_on<K: Keep + Drop, R: Source, W: Sink>(
     alloc: Global,
     role: Role,

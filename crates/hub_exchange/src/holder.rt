@@ -95,18 +95,17 @@ fn publish<H: HubName, T: Shows<H>, R: Wait + Drop, S: Wait, N: LedgerName>(
     pass: &mut Pass<H>,
     _op: &Digested,
     recorded: RecordedOp,
-    shelved: &Shelved<N>,
+    _shelved: &Shelved<N>,
 ) -> Result<Taken, HolderFault>
     requires stands { recorded ≡ op_in _op.now }
     requires same { digest_of (op_in _op.now) ≡ digest_of _op.now }
-    requires shelved { shelved.now.digest ≡ digest_of _op.now }
+    requires shelved { _shelved.now.digest ≡ digest_of _op.now }
     ensures takes { TakesIn (λ (s : Seat). set_of H.opening s.seen) (λ _. ⊥) pass.old _op.now
         result pass.new }
     ensures refused { OnErr result (pass.new.seen ≡ pass.old.seen) }
     ensures why { IfErr result (RefusesToPublish H.opening pass.old pass.new _op.now) }
-    ensures onward { IsOnward (WasWritten shelved.now.extract) pass.old pass.new }
+    ensures onward { IsOnward (WasWritten _shelved.now.extract) pass.old pass.new }
 {
-    let _ = &shelved.digest;
     let told = store(rt, keeper, pass, recorded);
     pass.see_history();
     reply(told)
@@ -254,7 +253,7 @@ impl<
         ensures takes { TakesIn (λ (s : Seat). set_of H.opening s.seen) (λ _. ⊥) self.old op result
             self.new }
         // What the pass has seen published is told as taken, and what is refused the shelf or the
-        // hub refused in this call.
+        // hub refused, or memory for its record.
         ensures refused { OnErr result (self.new.seen ≡ self.old.seen) }
         ensures why { IfErr result
             (RefusesAtHub (IsLent E.lent) P.refuses H.opening self.old self.new op) }

@@ -18,7 +18,7 @@ returns g c =
           c.reply.ensures told.refuses;
       why = refused_for g.H.HubName.opening before later op recorded c.store-told.result c.reply.result is
           c.reply.ensures told.refuses told.goes_on.counted;
-      onward = pass_onward g.H.HubName.opening (WasWritten c.args.shelved.now.extract) before later recorded
-          c.store-told.result c.args.shelved.now.digest c.args.shelved.now.written
+      onward = pass_onward g.H.HubName.opening (WasWritten c.args._shelved.now.extract) before later recorded
+          c.store-told.result c.args._shelved.now.digest c.args._shelved.now.written
           (c.requires.shelved ∙ sym (ap digest_of is ∙ same)) told.goes_on.later told.takes told.refuses;
     }
