@@ -138,8 +138,9 @@ fn meet_in_folder<'a, R: Net<Listener = TcpListener, Stream = TcpStream> + Threa
 }
 
 /// Exchanges the operations in a file with the site at an address, and says what came of it. Where
-/// not all fits into one exchange another follows, over a connection of its own, until both agree
-/// or one brings nothing; what is said then is said of all of them.
+/// not all fits into one exchange another follows, over a connection of its own, until both agree,
+/// one brings nothing or one is not finished, 257 at most. What was given and taken is then said of
+/// all of them, and whether it was finished and both agreed of the last.
 ///
 /// What is taken is in the store before it counts as given, and stays there whatever comes after.
 /// Refusals come in this order: the store, the site, the connection, the exchange. Where the file

@@ -38,9 +38,16 @@ pub fn front_of(rt: &HostRuntime, file: &str) -> Option<Vec<u8>> {
     }
 }
 
-/// The path of a file beside another one, whose name goes on so.
+/// The path of a file beside another one, whose name goes on so: where a link leads, as the
+/// database has it.
 pub fn beside(rt: &HostRuntime, file: &str, more: &str) -> Result<String, AllocError> {
-    format!(in rt.alloc(); "{file}{more}")
+    match fs::canonicalize(rt, file) {
+        Ok(found) => {
+            let found = found.as_str();
+            format!(in rt.alloc(); "{found}{more}")
+        }
+        Err(_unknown) => format!(in rt.alloc(); "{file}{more}"),
+    }
 }
 
 /// Whether a file is not there, so that opening its shelf makes it.
@@ -58,7 +65,8 @@ pub fn note_log(rt: &HostRuntime, file: &str) {
     }
 }
 
-/// Why a file that is not there can't be made: its folder is not there, or there is no right to it.
+/// Why a file that is not there could not be made, as far as its folder tells: that is not there.
+/// All else is told as want of a right, also a disk that is full or read-only.
 fn cause_of_absence(rt: &HostRuntime, file: &str) -> FileCause {
     let folder = match file.rsplit_once('/') {
         None => ".",

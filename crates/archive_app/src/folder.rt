@@ -17,6 +17,7 @@ use site_state::Site;
 use sqlite::Wary;
 use std::alloc::AllocError;
 use std::fs;
+use std::io::ErrorKind;
 use std::rt::HostRuntime;
 use std::thread::Threads;
 
@@ -46,12 +47,23 @@ fn has_heads(rt: &HostRuntime, folder: &str) -> bool {
     }
 }
 
-/// Whether records are beside a log.
-fn has_records(rt: &HostRuntime, folder: &str) -> bool {
-    match within(rt, folder, "records") {
-        Ok(records) => !is_new(rt, records.as_str()),
-        Err(_refused) => false,
+/// How many bytes a file of a folder has, where it is there.
+fn length_of(rt: &HostRuntime, folder: &str, name: &str) -> Option<u64> {
+    let path = within(rt, folder, name).ok()?;
+    match fs::metadata(rt, path.as_str()) {
+        Ok(found) => Some(found.len()),
+        Err(_unknown) => None,
     }
+}
+
+/// Whether records are beside a log. A file of no byte, or of one, has none, and would be begun.
+fn has_records(rt: &HostRuntime, folder: &str) -> bool {
+    length_of(rt, folder, "records").unwrap_or(0) > 1
+}
+
+/// Whether a log has heads, and no file that they lead to.
+fn lacks_bodies(rt: &HostRuntime, folder: &str) -> bool {
+    length_of(rt, folder, "heads").unwrap_or(0) > 1 && length_of(rt, folder, "bodies").is_none()
 }
 
 /// Whether something is in a folder, as far as that is known.
@@ -94,6 +106,9 @@ fn refused_log<'a>(folder: &'a str, fault: LogFault) -> Refused<'a> {
 /// The fault of a folder whose log is not opened.
 fn refused<'a>(folder: &'a str, fault: FolderFault) -> Refused<'a> {
     match fault {
+        FolderFault::System(error) if error.kind() == ErrorKind::OutOfMemory => {
+            Refused::of(folder, CommandFault::Shelf(ShelfFault::Memory))
+        }
         FolderFault::System(error) => refused_for(folder, file_cause_of(error.kind())),
         FolderFault::Busy => refused_for(folder, FileCause::InUse),
         FolderFault::Journal => refused_for(folder, FileCause::Journal),
@@ -190,8 +205,12 @@ fn told_to_view(rt: &HostRuntime, folder: &str) -> Vec<RecordedContent> {
 /// The log in a folder as a command's store.
 pub type FolderStore = KeptLog<FolderFile, FolderFile>;
 
-/// The log in a folder, of which nothing is changed.
+/// The log in a folder, of which nothing is changed. The two files without a byte that the database
+/// makes beside each of its files are made where they are not there.
 pub fn log_to_view<'a>(rt: &HostRuntime, folder: &'a str) -> Result<FolderStore, Refused<'a>> {
+    if lacks_bodies(rt, folder) {
+        return Err(refused_log(folder, LogFault::DamagedHeads(0)));
+    }
     Ok(KeptLog::of(rt.alloc(), log_in(rt, folder)?))
 }
 
@@ -261,7 +280,7 @@ pub fn site_in<'a, T: Threads + Sync>(
     sited(rt, threads, folder, log, contents.as_slice())
 }
 
-/// Does a command's work on a log. It alone names one.
+/// Does a command's work on a log.
 pub fn on_log<W: OnStore + Drop>(log: FolderStore, work: W) -> W::Told {
     work.on(log)
 }

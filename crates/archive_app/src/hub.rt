@@ -58,7 +58,7 @@ pub fn hub_of_log<'r, R: Wait + Threads + Sync, H: Disk + Drop, B: Disk>(
     Ok(opened)
 }
 
-/// The fault of an association, and else of the closing.
+/// The fault of what was served, and else of the closing.
 fn first_of(fault: Option<ServeFault>, closed: Option<HubFault>) -> Result<(), CommandFault> {
     match (fault, closed) {
         (Some(fault), _) => Err(CommandFault::from(fault)),

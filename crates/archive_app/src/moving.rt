@@ -76,9 +76,10 @@ impl<'h, 'a> OnStore for Starting<'h, 'a> {
 }
 
 /// Brings the operations of one archive into another, which is made where it is not there, and says
-/// how many there were and how many of them were new. The first is only read, and is refused where
-/// it is not there. Refusals come in this order: the first, the second; behind them that of a read
-/// or of a put, where the second has what it had and some of the first.
+/// how many there were and how many of them were new. The first is only read, but that a table of
+/// older programs becomes that of today, and is refused where it is not there. Refusals come in
+/// this order: the first, the second; behind them that of a read or of a put, where the second has
+/// what it had and some of the first.
 pub fn move_operations<'a>(rt: &HostRuntime, moving: Moving<'a>) -> Result<Vec<u8>, Refused<'a>> {
     if is_absent(rt, moving.from) {
         let fault = CommandFault::Shelf(ShelfFault::Store(StoreCause::Other));

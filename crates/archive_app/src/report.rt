@@ -144,8 +144,8 @@ fn told<'a, T: Threads + Sync>(
     )
 }
 
-/// The report of the operations in a file, of which nothing is changed. One that is not there has
-/// none, which is said, and is not made.
+/// The report of the operations in a file, of which nothing is changed, but that a table of older
+/// programs becomes that of today. One that is not there has none, which is said, and is not made.
 pub fn report<'a, T: Threads + Sync>(
     rt: &HostRuntime,
     threads: &T,

@@ -184,6 +184,15 @@ fn serve_site<
     serve_hub::<Brand, R, S>(host, rt, store, told, opened, &listening, serving, manner)
 }
 
+/// What is told of where serving did not begin: the address, where its listener was refused, and
+/// else the file.
+fn begun_at<'a>(serving: &Serving<'a>, served: &Result<Count, CommandFault>) -> &'a str {
+    match served {
+        Err(CommandFault::Net(_)) => serving.listen,
+        _ => serving.file,
+    }
+}
+
 /// Serves the site in a store, whose hub was opened, once it listens and says so.
 fn serve_store<
     'a,
@@ -217,10 +226,8 @@ fn serve_store<
         Err(fault) => return Ok(Err(fault)),
     };
     say_where(rt, &listening, serving)?;
-    Ok(about(
-        serving.file,
-        serve_site(host, rt, store, told, (opened, listening), serving),
-    ))
+    let served = serve_site(host, rt, store, told, (opened, listening), serving);
+    Ok(about(begun_at(serving, &served), served))
 }
 
 /// What was served of the operations on the shelf over a connection.
@@ -337,7 +344,9 @@ fn serve_file<
     serve_shelf(host, rt, serving, listening)
 }
 
-/// How serving ended: what its first fault is about.
+/// How serving ended, and what its first fault is told of. An accept that failed is told of the
+/// address of associations, also where it was one of exchanges, of pages or of the desk; a thread
+/// of a peer, of pages or of the desk that was refused is told of the address of exchanges.
 fn ended_of<'a>(serving: &Serving<'a>, ended: Result<(), CommandFault>) -> Result<(), Refused<'a>> {
     let what = match ended {
         Err(CommandFault::Run(_) | CommandFault::Net(_)) => serving.listen,

@@ -55,8 +55,9 @@ fn verified<'a>(rt: &HostRuntime, file: &'a str) -> Result<Verified, Refused<'a>
     }
 }
 
-/// Tests each operation in a file, of which nothing is changed, and prints which are not those of
-/// their digests. Where one is not it ends with a fault behind that.
+/// Tests each operation in a file, of which nothing is changed, but that a table of older programs
+/// becomes that of today, and prints which are not those of their digests. Where one is not it ends
+/// with a fault behind that.
 pub fn verify<'a>(rt: &HostRuntime, verifying: Verifying<'a>) -> Printed<Result<(), Refused<'a>>> {
     let file = verifying.file;
     let verified = match verified(rt, file) {

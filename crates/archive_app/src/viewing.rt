@@ -4,7 +4,7 @@
 ghost use Rattle.std.specs.Prelude.{IfOk, IsTrue};
 ghost use Rattle.sqlite_disk.specs.Memory.{memory_is_usable};
 
-use crate::file::{OnStore, beside, front_of, is_new, note_log, on_database, on_shelf, refused};
+use crate::file::{OnStore, beside, is_new, note_log, on_database, on_shelf, refused};
 use crate::folder::{is_folder, log_to_view, on_log};
 use crate::output::{CommandFault, FileCause, file_cause_of, is_other};
 use crate::refused::Refused;
@@ -15,16 +15,22 @@ use sqlite_disk::{Disk, Memory as InMemory};
 use std::alloc::Global;
 use std::fs::{File, OpenOptions};
 use std::hash::{BuildHasher, RandomState};
-use std::io;
 use std::io::{ErrorKind, Read};
 use std::os::fd::AsRawFd;
 use std::rt::HostRuntime;
+use std::{fs, io};
 
-/// Where SQLite's locks begin, and how many bytes they are: a program that has the file open holds
-/// one of them.
+/// Where SQLite's locks of a file begin, and how many bytes they are: a program that has the file
+/// open holds one of them.
 const LOCKS: u64 = 1_073_741_824;
 
 const LOCKED: u64 = 512;
+
+/// Where its locks of a log begin, in the file `-shm` beside it, and how many bytes those are that
+/// a program holds while it writes the log, or copies it into the file.
+const LOG_LOCKS: u64 = 120;
+
+const LOG_LOCKED: u64 = 3;
 
 /// A file in memory that has these bytes.
 fn memory_of(alloc: Global, bytes: &[u8]) -> io::Result<InMemory>
@@ -44,34 +50,68 @@ fn bytes_of(alloc: Global, mut file: &File) -> io::Result<Vec<u8>> {
     Ok(bytes)
 }
 
+/// A file beside another one, open, where it is there.
+fn open_beside(rt: &HostRuntime, file: &str, more: &str) -> io::Result<Option<File>> {
+    let path = beside(rt, file, more)?;
+    match File::open(rt, path.as_str()) {
+        Ok(opened) => Ok(Some(opened)),
+        Err(error) if error.kind() == ErrorKind::NotFound => Ok(None),
+        Err(error) => Err(error),
+    }
+}
+
 /// The bytes of the log of a file, which has none where it is not there.
 fn log_of(rt: &HostRuntime, file: &str) -> io::Result<Vec<u8>> {
-    let log = beside(rt, file, "-wal")?;
-    match File::open(rt, log.as_str()) {
-        Ok(log) => bytes_of(rt.alloc(), &log),
-        Err(error) if error.kind() == ErrorKind::NotFound => Ok(Vec::new(rt.alloc())),
-        Err(error) => Err(error),
+    match open_beside(rt, file, "-wal")? {
+        Some(log) => bytes_of(rt.alloc(), &log),
+        None => Ok(Vec::new(rt.alloc())),
     }
 }
 
 /// Whether a journal is beside a file which only SQLite can play back.
 fn has_journal(rt: &HostRuntime, file: &str) -> io::Result<bool> {
-    let journal = beside(rt, file, "-journal")?;
-    match front_of(rt, journal.as_str()) {
-        None => Ok(false),
-        Some(front) => Ok(front.first().copied().unwrap_or(0) != 0),
-    }
+    let Some(journal) = open_beside(rt, file, "-journal")? else {
+        return Ok(false);
+    };
+    let mut first = Vec::new(rt.alloc());
+    journal.take(1).read_to_end(&mut first)?;
+    Ok(first.first().copied().unwrap_or(0) != 0)
 }
 
-/// A file and its log, copied while no program that writes it has it open.
+/// Why a file is not locked: another program has it open, or the system can't lock it.
+fn unlocked() -> io::Error {
+    let error = io::Error::from_raw_os_error(os::errno());
+    if error.kind() == ErrorKind::WouldBlock {
+        return ErrorKind::ResourceBusy.into();
+    }
+    error
+}
+
+/// Locks some bytes of a file for as long as it is open, beside others that only read.
+fn lock(opened: &File, from: u64, count: u64) -> io::Result<()> {
+    if os::try_lock_range(opened.as_raw_fd(), RangeLock::Shared, from, count) != 0 {
+        return Err(unlocked());
+    }
+    Ok(())
+}
+
+/// What keeps other programs from writing the log of a file while it is open, where some may.
+fn log_locked(rt: &HostRuntime, file: &str) -> io::Result<Option<File>> {
+    let shared = open_beside(rt, file, "-shm")?;
+    if let Some(opened) = &shared {
+        lock(opened, LOG_LOCKS, LOG_LOCKED)?;
+    }
+    Ok(shared)
+}
+
+/// A file and its log, copied while no program writes them.
 fn copied(rt: &HostRuntime, file: &str) -> io::Result<Files<InMemory>>
     ensures log { IfOk result (λ files. IsTrue (memory_is_usable files.log)) }
     ensures db { IfOk result (λ files. IsTrue (memory_is_usable files.db)) }
 {
     let opened = File::open(rt, file)?;
-    if os::try_lock_range(opened.as_raw_fd(), RangeLock::Shared, LOCKS, LOCKED) != 0 {
-        return Err(ErrorKind::ResourceBusy.into());
-    }
+    lock(&opened, LOCKS, LOCKED)?;
+    let _held = log_locked(rt, file)?;
     if has_journal(rt, file)? {
         return Err(ErrorKind::AlreadyExists.into());
     }
@@ -134,17 +174,30 @@ fn is_open_to(rt: &HostRuntime, file: &str) -> bool {
         .is_ok()
 }
 
-/// Whether opening a file makes none: its log is beside it, and both may be written.
+/// Whether a file has bytes.
+fn has_bytes(rt: &HostRuntime, file: &str) -> bool {
+    match fs::metadata(rt, file) {
+        Ok(found) => found.len() > 0,
+        Err(_unknown) => false,
+    }
+}
+
+/// Whether opening a file makes nothing: it has bytes, its log is beside it, and both may be
+/// written.
 fn has_both(rt: &HostRuntime, file: &str) -> bool {
     let Ok(log) = beside(rt, file, "-wal") else {
         return false;
     };
-    !is_new(rt, log.as_str()) && is_open_to(rt, log.as_str()) && is_open_to(rt, file)
+    has_bytes(rt, file)
+        && !is_new(rt, log.as_str())
+        && is_open_to(rt, log.as_str())
+        && is_open_to(rt, file)
 }
 
-/// Does a command's work on the operations in a file or a folder, of which nothing is changed.
-/// Where opening a file would make another, or there is no right to write it, the work is done on a
-/// copy in memory. A folder is opened as it stands.
+/// Does a command's work on the operations in a file or a folder, of which nothing is changed, but
+/// that a table of older programs becomes that of today. Where opening a file would make another,
+/// or there is no right to write it, the work is done on a copy in memory. A folder is opened as it
+/// stands.
 pub fn view_file<'a, W: OnStore + Drop>(
     rt: &HostRuntime,
     file: &'a str,

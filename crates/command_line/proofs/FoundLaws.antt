@@ -24,10 +24,12 @@ pub texts_are : (found : ArgMatches) (name : List ℕ)
 unfolding texts_at
 texts_are found name = raw_values-rows (found_of found) name
 
+-- the test of digits passes decimal digits
 digits_pass : (ds : List ℕ) → AllDigits 10 ds → list_all (λ d. nat_lt (digit_value d) 10) ds ≡ true
 digits_pass [] h = refl
 digits_pass (d ∷ ds) h = rw (lt-ltb (digit_value d) 10 h.0) (digits_pass ds h.1)
 
+-- and what passes it is decimal digits
 digits_from : (ds : List ℕ) → list_all (λ d. nat_lt (digit_value d) 10) ds ≡ true → AllDigits 10 ds
 digits_from [] e = tt
 digits_from (d ∷ ds) e =

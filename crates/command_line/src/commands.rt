@@ -26,8 +26,8 @@ const REPORT_LONG: &str = "\
 Counts the operations in FILE, and tells the SOP Instance UIDs of which it has
 two contents or more. With one of --conflicts, --rejected, --corrections and
 --studies it tells a table instead, aligned for reading, and with --tsv parted
-by tabs. FILE is only read; one that is not there is told as one that has
-nothing.
+by tabs. FILE is only read, but that a table of older programs becomes that of
+today; one that is not there is told as one that has nothing.
 
 With --at FILE is left out: the running site whose pages are at ADDR tells the
 table, as its text of UTF-8, or how many operations, contents and corrections it
@@ -92,7 +92,8 @@ const MOVE_LONG: &str = "\
 Brings all operations of FROM into TO, which is made where it is not there: as
 a folder where its name ends with a slash, and else as a file. What TO has stays
 and is not written again, so that a move that broke off is begun anew. FROM is
-only read. Prints how many operations FROM has, and how many were new in TO.
+only read, but that a table of older programs becomes that of today. Prints how
+many operations FROM has, and how many were new in TO.
 
 Example: archive move site.db site/";
 
@@ -102,7 +103,8 @@ const VERIFY_LONG: &str = "\
 Tests each operation in FILE against its digest, and prints how many there are,
 a line \"damaged DIGEST INSTANCE\" for each that is not the one of its digest,
 and how many these are; with one or more of them the status is 1. FILE is only
-read, and is refused where it is not there.
+read, but that a table of older programs becomes that of today, and is refused
+where it is not there.
 
 Example: archive verify site/";
 

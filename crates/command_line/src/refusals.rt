@@ -39,7 +39,8 @@ pub(crate) const BAD_NETWORK: Refusal = Refusal {
 
 const BAD_TITLE: Refusal = Refusal {
     kind: ErrorKind::InvalidValue,
-    text: "--calling, --quality-calling and --audit-calling want 1 to 16 ASCII characters",
+    text: "--calling, --quality-calling and --audit-calling want 1 to 16 printable ASCII \
+        characters, no backslash and no outer space",
 };
 
 pub(crate) const BAD_FORM: Refusal = Refusal {

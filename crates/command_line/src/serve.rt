@@ -217,7 +217,7 @@ pub(crate) const SERVE_ROWS: &[Row] = &[
     Row {
         name: "cache",
         value: "MIB",
-        // Up to a terabyte.
+        // Up to a tebibyte.
         form: Form::Number(0, 1_048_576),
         heading: Some("Cache"),
         line: "Room for images used last, in MiB [default: 32]",

@@ -200,7 +200,7 @@ fn words_of_hub(fault: HubFault) -> &'static str
     ensures { result.now ≡ words_of_fault (CommandFault.Hub fault) }
 {
     match fault {
-        HubFault::Busy => "its workers do not agree on what it has",
+        HubFault::Busy => "the site was busy",
         HubFault::Collision => "two different operations have one digest",
         HubFault::Memory => "memory was refused",
         HubFault::StampsSpent => "the last counter of stamps is used",
@@ -250,7 +250,7 @@ fn words_of_ask(fault: AskFault) -> &'static str
 {
     match fault {
         AskFault::Broken => "the connection broke off",
-        AskFault::TooLong => "its answer is longer than 64 MiB",
+        AskFault::TooLong => "its answer is longer than 64 MiB, or has too many pages",
         AskFault::NoAnswer => "it answered what no running site does",
         AskFault::Memory => "memory was refused",
         AskFault::Refused(why) => why.words(),

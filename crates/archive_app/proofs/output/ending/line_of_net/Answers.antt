@@ -8,7 +8,7 @@ use Rattle.archive_app.proofs.output.ending.line_of_net.Goals as goal
 pub returns-in-Listen : goal.returns-in-Listen
 returns-in-Listen c = ap (λ (fault : NetFault). fault_line (codes "net") (number_of fault)) (sym c.in-Listen.is)
 
--- No association was accepted: the line has its number.
+-- No connection was accepted: the line has its number.
 pub returns-in-Accept : goal.returns-in-Accept
 returns-in-Accept c = ap (λ (fault : NetFault). fault_line (codes "net") (number_of fault)) (sym c.in-Accept.is)
 
