@@ -69,6 +69,7 @@ class Archive:
         for line in wanted:
             found = self.process.stdout.readline().decode()
             if found != line:
+                self.process.kill()
                 raise RuntimeError(f"the archive did not listen: {found!r} {self.process.stderr.read()!r}")
 
     def command(self, *words):

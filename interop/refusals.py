@@ -7,6 +7,7 @@ import shutil
 import socket
 import sqlite3
 import subprocess
+import sys
 
 from archive import free_port, same, told
 
@@ -242,11 +243,48 @@ def try_reports(refusals):
     with_log, alone = refusals.path("with a log"), refusals.path("without its log")
     refusals.run(["correct", with_log, "--site", "1", "patient", "P1", "00100010", "ROE^ANN"], NOBODY)
     told("report of a FILE beside its log says nothing", same(refusals.said(["report", with_log]), (0, "")))
+    link = refusals.path("a link")
+    os.symlink(with_log, link)
+    found = refusals.run(["report", with_log], NOBODY)
+    told("report of a link to it tells what it holds, log and all", same(refusals.run(["report", link], NOBODY), found))
+    os.remove(link)
     shutil.copy(with_log, alone)
     before = below(refusals.folder)
     told("report of a FILE that was copied without its log says so", same(refusals.said(["report", alone]), (
         0, f"archive: {alone}: {WITHOUT_LOG}\n")))
     told("it makes no log", changes(before, below(refusals.folder)))
+    try_written(refusals)
+
+
+# A process of its own, since one that reads a file and closes it lets go of its locks of it.
+WRITES = """
+import sqlite3, sys
+database = sqlite3.connect(sys.argv[1], isolation_level=None)
+for step in ("PRAGMA journal_mode = WAL; BEGIN IMMEDIATE", "ROLLBACK"):
+    for words in step.split("; "):
+        database.execute(words)
+    print(step, flush=True)
+    sys.stdin.readline()
+"""
+
+
+def try_written(refusals):
+    """Reports of a file that may not be written, while sqlite3 writes it, and once it does not."""
+    written = refusals.path("written")
+    shutil.copy(refusals.path("whole"), written)
+    words = [sys.executable, "-c", WRITES, written]
+    with subprocess.Popen(words, stdin=subprocess.PIPE, stdout=subprocess.PIPE) as writer:
+        writer.stdout.readline()
+        for end in ("", "-wal", "-shm"):
+            if os.path.exists(written + end):
+                os.chmod(written + end, 0o444)
+        refusals.refused("report of a FILE that sqlite3 writes", ["report", written], 1, lines(
+            "fault shelf 1", written, "another program has it open"))
+        writer.stdin.write(b"\n")
+        writer.stdin.flush()
+        writer.stdout.readline()
+        told("report of it once sqlite3 only has it open", same(refusals.run(["report", written], NOBODY), (
+            0, "operations 2\ncontents 0\ncorrections 2\nseries 0\nend 0\n", "")))
 
 
 def try_corrections(refusals):
