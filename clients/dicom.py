@@ -54,7 +54,7 @@ def image(study, series, instance, patient, name, pixels=b"", explicit=False, ex
 
 
 def elements(data, explicit=False):
-    """The values of a flat data set by tag; an element that is a sequence is left out."""
+    """The values of a flat data set by tag; a sequence of undefined length is left out."""
     found, at = {}, 0
     while at + 8 <= len(data):
         group, number = struct.unpack_from("<HH", data, at)

@@ -13,7 +13,8 @@ _archive() {
             report\ *) words="--at --fingerprint --conflicts --rejected --corrections --studies --tsv --help" ;;
             move\ *) words="--help" ;;
             verify\ *) words="--help" ;;
-            help\ help) words="serve exchange correct report move verify simulate" ;;
+            simulate\ *) words="--help" ;;
+            help\ help) words="serve exchange correct report move verify simulate help" ;;
             *) return ;;
         esac
     fi
