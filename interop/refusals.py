@@ -208,6 +208,10 @@ def try_files(refusals):
     for command, words in on_file(refusals, "a folder that is not there/new")[:1]:
         refusals.refused(f"{command} of a FILE in no folder", words, 1, lines(
             "fault shelf 1", refusals.path("a folder that is not there/new"), "its folder is not there"))
+    os.symlink(refusals.path("nowhere/site.db"), refusals.path("a link to nowhere"))
+    for command, words in on_file(refusals, "a link to nowhere")[:1]:
+        refusals.refused(f"{command} of a FILE that is a link to nowhere", words, 1, lines(
+            "fault shelf 1", refusals.path("a link to nowhere"), "it is a link that leads nowhere"))
     os.link(refusals.path("whole"), refusals.path("a second name"))
     for command, words in on_file(refusals, "a second name")[2:]:
         refusals.refused(f"{command} of a FILE with two names", words, 1, lines(

@@ -1,5 +1,5 @@
 -- Why a command is refused, in words.
-use Rattle.std.specs.Prelude.{ℕ, ◌≡◌, ◌↔◌, List, codes, Option, Some, None}
+use Rattle.std.specs.Prelude.{ℕ, ◌≡◌, ◌↔◌, List, codes, Option, Some, None, Bool, true, false}
 use Rattle.std.specs.declared.io.ErrorKind.{ErrorKind}
 use Rattle.std.specs.declared.io.ErrorKind.TheVariants as kind
 use Rattle.sqlite.specs.declared.error.Error.{Error}
@@ -12,6 +12,7 @@ use Rattle.op_shelf.specs.Fault.{fault_of}
 use Rattle.site_state.specs.declared.fault.SiteFault.TheVariants as site
 use Rattle.site_hub.specs.declared.fault.HubFault.TheVariants as hub
 use Rattle.association_run.specs.declared.fault.RunFault.TheVariants as run
+use Rattle.exchange.specs.declared.fault.ExchangeFault.{ExchangeFault}
 use Rattle.exchange.specs.declared.fault.ExchangeFault.TheVariants as exchange
 use Rattle.archive_server.specs.declared.fault.NetFault.TheVariants as net
 use Rattle.archive_server.specs.Cause.{words_of_shelf}
@@ -32,6 +33,7 @@ words_of_file file.InUse = codes "another program has it open"
 words_of_file file.Absent = codes "it is not there"
 words_of_file file.Folder = codes "it is a folder, and no archive's"
 words_of_file file.NoFolder = codes "its folder is not there"
+words_of_file file.Link = codes "it is a link that leads nowhere"
 words_of_file file.NoRights = codes "no right to read and write it, or to make files in its folder"
 words_of_file file.ReadOnly = codes "its file system is read-only"
 words_of_file file.NotPlain = codes "it is no plain file, or has a second name"
@@ -82,7 +84,7 @@ words_of_fault (fault.Run run.Read) = codes "a peer went away, or fell silent, i
 words_of_fault (fault.Run run.Write) = codes "a peer went away, or took nothing, in an association"
 words_of_fault (fault.Run run.Memory) = codes "memory was refused"
 words_of_fault (fault.Run run.Turns) = codes "an association does not end"
-words_of_fault (fault.Exchange exchange.BadFrame) = codes "it sent what is no frame, or one out of its turn"
+words_of_fault (fault.Exchange exchange.BadFrame) = codes "it sent what is no frame, or one out of its turn, or closed too soon"
 words_of_fault (fault.Exchange exchange.TooLong) = codes "a frame is longer than is read or written"
 words_of_fault (fault.Exchange exchange.Stranger) = codes "it sent an operation that was not asked for"
 words_of_fault (fault.Exchange exchange.Io) = codes "the connection broke off"
@@ -105,6 +107,16 @@ abbrev pub SaysFullOfAFullDisk : Type 0
 SaysFullOfAFullDisk =
     (error : Error) → (words_of_fault (fault.Shelf (fault_of error)) ≡ codes "the disk is full")
     ↔ (error ≡ SqliteFailure code.DiskFull)
+
+-- whether an exchange broke off for what this side refused, and not for its peer
+abbrev pub is_own : ExchangeFault → Bool
+is_own exchange.BadFrame = false
+is_own exchange.TooLong = false
+is_own exchange.Stranger = false
+is_own exchange.Io = false
+is_own exchange.Memory = true
+is_own exchange.Turns = false
+is_own exchange.Refused = true
 
 -- a cause in words
 abbrev pub words_of : Cause → List ℕ

@@ -4,17 +4,19 @@ use Rattle.std.specs.Prelude.{nat_eq, slice_get, Option, Some, None}
 use Rattle.std.specs.Cmp.Lexicographic.{pointwise}
 use Rattle.std.specs.List.{ends_with}
 use Rattle.archive_app.specs.declared.output.notes.Note.{Note}
-use Rattle.archive_app.specs.declared.output.notes.Note.TheVariants.{Absent, WithoutLog, NoDate, NoTime}
-use Rattle.archive_app.specs.declared.output.notes.Note.TheVariants.{DamagedRecords, NoRecords, OtherRecords}
+use Rattle.archive_app.specs.declared.output.notes.Note.TheVariants.{Absent, Made, WithoutLog, NoDate, NoTime}
+use Rattle.archive_app.specs.declared.output.notes.Note.TheVariants.{DamagedRecords, NoRecords, NoHeads, OtherRecords}
 use Rattle.archive_app.specs.declared.output.notes.Note.TheVariants.{UnknownStudy, UnknownPatient, UnknownSeries}
 
 -- each note in words
 abbrev pub words_of_note : Note → List ℕ
 words_of_note Absent = codes "it is not there, and is told as one that has nothing"
+words_of_note Made = codes "it was not there, and is made"
 words_of_note WithoutLog =
     codes "its -wal is not beside it: without it what came last is missing, unless sqlite3 closed it"
 words_of_note DamagedRecords = codes "its file records is damaged, and begun anew: this start reads each image"
 words_of_note NoRecords = codes "its file records is not used: this start reads each image"
+words_of_note NoHeads = codes "its file heads is empty, and bodies is not: what was there is not read"
 words_of_note OtherRecords =
     codes "its file records does not follow its log: remove it, and the next start makes it anew"
 words_of_note NoDate = codes "warning: VALUE is no date that a query matches, such as 20240229"

@@ -1,5 +1,8 @@
 //! `archive exchange`: exchanges the operations in a file or a folder with another site.
 
+ghost use Rattle.std.specs.Prelude.{◌≡◌, if◌then◌else◌, IfErr};
+ghost use Rattle.archive_app.specs.Causes.{is_own as is_own_in};
+
 use crate::file::{OnStore, on_shelf};
 use crate::folder::{is_absent, is_folder, site_in};
 use crate::output::{CommandFault, NetCause, lines_of_exchange, reach_cause_of};
@@ -33,20 +36,34 @@ pub fn connect_to<'a, R: Net<Listener = TcpListener, Stream = TcpStream>>(
     }
 }
 
-/// What came of an exchange with a peer, which is told where it said nothing.
+/// Whether an exchange broke off for what this side refused, and not for its peer.
+fn is_own(fault: ExchangeFault) -> bool
+    ensures { result ≡ is_own_in fault }
+{
+    matches!(fault, ExchangeFault::Memory | ExchangeFault::Refused)
+}
+
+/// What came of an exchange. What this side refused is told of its file, and else the peer, which
+/// is told where it said nothing.
 fn told_of<'a>(
-    peer: &'a str,
+    exchanging: Exchanging<'a>,
     is_silent: bool,
     ended: Result<Ended, ExchangeFault>,
-) -> Result<Ended, Refused<'a>> {
-    match ended {
-        Ok(ended) => Ok(ended),
-        Err(fault) if is_silent => {
-            let fault = CommandFault::Exchange(fault);
-            Err(Refused::net(peer, fault, NetCause::Silent))
-        }
-        Err(fault) => Err(Refused::of(peer, CommandFault::Exchange(fault))),
+) -> Result<Ended, Refused<'a>>
+    ensures about { IfErr ended (λ fault. IfErr result (λ refused.
+        refused.about ≡ (if is_own_in fault then exchanging.entry.file else exchanging.entry.peer))) }
+{
+    let (fault, told) = match ended {
+        Ok(ended) => return Ok(ended),
+        Err(fault) => (fault, CommandFault::Exchange(fault)),
+    };
+    if is_own(fault) {
+        return Err(Refused::of(exchanging.file, told));
     }
+    if is_silent {
+        return Err(Refused::net(exchanging.peer, told, NetCause::Silent));
+    }
+    Err(Refused::of(exchanging.peer, told))
 }
 
 /// Says on standard error whether both sides agreed. A line that it refuses is dropped.
@@ -101,7 +118,7 @@ impl<'h, 'a, R: Net<Listener = TcpListener, Stream = TcpStream>> Meeting<'h, 'a,
                 shelf,
                 ended,
             } = exchange_over(rt, exchanging.role, &wire, site, store);
-            let last = told_of(exchanging.peer, wire.is_silent(), ended)?;
+            let last = told_of(exchanging, wire.is_silent(), ended)?;
             all = all.with_last(last);
             if !all.is_followed(last) {
                 return Ok(all);

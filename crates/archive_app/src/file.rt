@@ -65,9 +65,13 @@ pub fn note_log(rt: &HostRuntime, file: &str) {
     }
 }
 
-/// Why a file that is not there could not be made, as far as its folder tells: that is not there.
-/// All else is told as want of a right, also a disk that is full or read-only.
+/// Why a file that is not there could not be made, as far as its folder tells: that is not there,
+/// or has a link of this name. All else is told as want of a right, also a disk that is full or
+/// read-only.
 fn cause_of_absence(rt: &HostRuntime, file: &str) -> FileCause {
+    if fs::symlink_metadata(rt, file).is_ok() {
+        return FileCause::Link;
+    }
     let folder = match file.rsplit_once('/') {
         None => ".",
         Some(("", _)) => "/",

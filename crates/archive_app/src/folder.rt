@@ -66,6 +66,13 @@ fn lacks_bodies(rt: &HostRuntime, folder: &str) -> bool {
     length_of(rt, folder, "heads").unwrap_or(0) > 1 && length_of(rt, folder, "bodies").is_none()
 }
 
+/// Whether data sets are in a folder, and nothing leads to them: as a copy that broke off leaves
+/// it, or a crash in the first put.
+fn lacks_heads(rt: &HostRuntime, folder: &str) -> bool {
+    length_of(rt, folder, "heads").unwrap_or(0) <= 1
+        && length_of(rt, folder, "bodies").unwrap_or(0) > 1
+}
+
 /// Whether something is in a folder, as far as that is known.
 fn is_filled(rt: &HostRuntime, folder: &str) -> bool {
     match fs::read_dir(rt, folder) {
@@ -130,6 +137,9 @@ fn refusal_of<'a>(rt: &HostRuntime, folder: &'a str) -> Option<Refused<'a>> {
 pub fn log_in<'a>(rt: &HostRuntime, folder: &'a str) -> Result<FolderLog, Refused<'a>> {
     if let Some(refused) = refusal_of(rt, folder) {
         return Err(refused);
+    }
+    if lacks_heads(rt, folder) {
+        note(rt, folder, Note::NoHeads);
     }
     open_folder(rt, folder).map_err(|fault| refused(folder, fault))
 }

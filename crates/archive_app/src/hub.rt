@@ -1,7 +1,7 @@
 //! The hub of a site that is served: how it is opened over a store, and closed behind what was
 //! served.
 
-ghost use Rattle.std.specs.Prelude.{◌≡◌, ◌≤◌, [], IfOk};
+ghost use Rattle.std.specs.Prelude.{◌≤◌, [], IfOk};
 ghost use Rattle.shelved_site.specs.Keeping.{IsUp, log_of};
 ghost use Rattle.shelved_site.specs.Stores.{listed_in};
 ghost use Rattle.shelved_site.specs.Told.{IsOpenedOn};

@@ -1,5 +1,7 @@
 //! Why a command is refused, and what of.
 
+ghost use Rattle.std.specs.Prelude.{◌≡◌};
+
 use crate::output::{Cause, CommandFault, FileCause, NetCause, Note, words_of, words_of_note};
 use std::rt::HostRuntime;
 
@@ -13,7 +15,9 @@ pub struct Refused<'a> {
 
 impl<'a> Refused<'a> {
     /// Of which no more is known than the fault.
-    pub fn of(about: &'a str, fault: CommandFault) -> Refused<'a> {
+    pub fn of(about: &'a str, fault: CommandFault) -> Refused<'a>
+        ensures about { result.about ≡ about.entry }
+    {
         Refused {
             fault,
             about,
@@ -29,7 +33,9 @@ impl<'a> Refused<'a> {
         }
     }
 
-    pub fn net(about: &'a str, fault: CommandFault, cause: NetCause) -> Refused<'a> {
+    pub fn net(about: &'a str, fault: CommandFault, cause: NetCause) -> Refused<'a>
+        ensures about { result.about ≡ about.entry }
+    {
         Refused {
             fault,
             about,

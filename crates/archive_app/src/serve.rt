@@ -13,8 +13,8 @@ use crate::folder::{is_folder, log_in, records_in};
 use crate::gauges::gauges_of;
 use crate::hub::{Count, closed_behind, hub_of, hub_of_log};
 use crate::listening::{Listening, listen_first, listen_to, say_where};
-use crate::output::CommandFault;
-use crate::refused::{Refused, about};
+use crate::output::{CommandFault, Note};
+use crate::refused::{Refused, about, note};
 use anyhow::Result as Printed;
 use archive_server::{Entrance, Manner, Peer, serve_on};
 use association_run::OpenGate;
@@ -131,7 +131,9 @@ fn serve_hub<
     Ok(closed_behind(served, keeper.into_inner()))
 }
 
-/// Where a server listens: here, where nobody does yet.
+/// Where a server listens: here, where nobody does yet. Where it listens already the file was not
+/// there, which is said: what was served before may stand elsewhere, as on a disk that is not
+/// mounted.
 fn listening_of<'a, R: Net<Listener = TcpListener, Stream = TcpStream>>(
     host: &HostRuntime,
     rt: &R,
@@ -139,7 +141,10 @@ fn listening_of<'a, R: Net<Listener = TcpListener, Stream = TcpStream>>(
     listening: Option<Listening>,
 ) -> Result<Listening, Refused<'a>> {
     match listening {
-        Some(listening) => Ok(listening),
+        Some(listening) => {
+            note(host, serving.file, Note::Made);
+            Ok(listening)
+        }
         None => listen_to(host, rt, serving),
     }
 }

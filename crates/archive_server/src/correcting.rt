@@ -13,7 +13,7 @@ use crate::clerk::Clerk;
 use crate::done::Done;
 use crate::entrance::{Entered, Entrance, accept_from, pause_behind_accept};
 use crate::fault::{NetFault, ServeFault};
-use crate::journal::{Whence, tell_corrected, tell_not_accepted, tell_turned_away};
+use crate::journal::{Made, Whence, tell_corrected, tell_not_accepted, tell_turned_away};
 use crate::meeting::Still;
 use crate::message::{Reach, Request};
 use crate::paging::{is_nobody, lets_accepts_end};
@@ -67,7 +67,7 @@ fn with_peer<'x, H: HubName, T: Shows<H>, R: Wait + Drop, S: Wait + Clock + Log,
     );
     let mut reader = Visit::new(rt, wire, ended, idle);
     let mut writer = Visit::new(rt, wire, ended, idle);
-    let (done, stamps, _served) = done.with_corrections(
+    let (done, used, _served) = done.with_corrections(
         &hall.archive,
         shelf,
         correcting.keys,
@@ -75,9 +75,17 @@ fn with_peer<'x, H: HubName, T: Shows<H>, R: Wait + Drop, S: Wait + Clock + Log,
         &mut reader,
         &mut writer,
     );
-    tell_corrected(rt, hall.manner, Whence::at(peer), wire, writer.count());
+    let made = Made::between(stamps, used);
+    tell_corrected(
+        rt,
+        hall.manner,
+        Whence::at(peer),
+        wire,
+        made,
+        writer.count(),
+    );
     wire.part(rt);
-    (done, stamps)
+    (done, used)
 }
 
 /// What the thread has done, with what came of an accept.

@@ -9,7 +9,7 @@ use crate::clerk::Clerk;
 use crate::conversing::{Conversed, serve_exchange};
 use crate::done::Done;
 use crate::entrance::{Entered, Entrance, accept_from, rest_behind_accept};
-use crate::journal::{Whence, tell_exchange, tell_turned_away};
+use crate::journal::{Whence, tell_exchange, tell_last_round, tell_turned_away};
 use crate::message::{Reach, Request};
 use crate::refusing::Telling;
 use crate::wire::Wire;
@@ -135,7 +135,7 @@ fn next_exchange<H: HubName, T: Shows<H>, R: Wait + Drop, S: Wait + Clock + Log,
 }
 
 /// Accepts until all rounds were begun, by whichever thread of exchanges, or until the server is
-/// ended.
+/// ended. Behind the last round it is told that it was the last.
 pub(crate) fn exchange_all<
     H: HubName,
     T: Shows<H>,
@@ -153,11 +153,14 @@ pub(crate) fn exchange_all<
 {
     let mut done = Done::nothing(clerk, None);
     for _ in 0..exchanging.rounds {
-        let is_left = hall.begun.fetch_add(1, Ordering::SeqCst) < exchanging.rounds;
-        if !is_left || hall.manner.is_ended() {
+        let begun = hall.begun.fetch_add(1, Ordering::SeqCst);
+        if begun >= exchanging.rounds || hall.manner.is_ended() {
             return done;
         }
         done = next_exchange(hall, exchanging.entrance, &reach.to, done);
+        if begun == exchanging.rounds - 1 {
+            tell_last_round(hall.archive.rt, hall.manner);
+        }
     }
     done
 }

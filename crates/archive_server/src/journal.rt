@@ -1,8 +1,8 @@
 //! The lines of a server on standard error: where they are asked for, one for each association,
 //! exchange, page and correction, for each peer that is not reached or turned away, and each store
-//! that is refused; always one for an accept that failed while nobody had ended the server, for an
-//! association that wanted memory, and for an exchange that the archive refused, or lacked memory
-//! for.
+//! that is refused; always one for an accept that failed while nobody had ended the server, for the
+//! last round of exchanges, for an association that wanted memory, and for an exchange that the
+//! archive refused, or lacked memory for.
 //!
 //! What a peer sent is shown as printable ASCII, so that no peer makes a line of its own. A line
 //! that standard error refuses is dropped.
@@ -23,6 +23,7 @@ use dictionary::{
 use exchange::{Ended, ExchangeFault, Role};
 use jiff::Timestamp;
 use log::{Log, error, info};
+use site_desk::Stamps;
 use site_pages::Tally;
 use std::fmt::{Display, Formatter};
 use std::io::ErrorKind;
@@ -321,6 +322,16 @@ pub(crate) fn tell_unreached<S: Clock + Log>(
     info!(rt; target: "exchange", "{moment} to {address} not reached{broken}");
 }
 
+/// Tells always that no other exchange is accepted, unless the server was ended: the last round was
+/// used up.
+pub(crate) fn tell_last_round<S: Clock + Log>(rt: &S, manner: Manner<'_>) {
+    if manner.is_ended() {
+        return;
+    }
+    let moment = Moment::now(rt);
+    info!(rt; target: "exchange", "{moment} all rounds are used up: no other is served");
+}
+
 /// Tells that who came for a page was answered with so many bytes, where lines are asked for.
 pub(crate) fn tell_visit<S: Clock + Log>(
     rt: &S,
@@ -336,19 +347,44 @@ pub(crate) fn tell_visit<S: Clock + Log>(
     info!(rt; target: "page", "{moment} from {peer} sent {sent}{broken}");
 }
 
-/// Tells that who came to the desk was answered with so many bytes, likewise.
+/// The last stamp that was made for who came to the desk, if one was.
+#[derive(Clone, Copy)]
+pub(crate) struct Made(Option<Stamps>);
+
+impl Made {
+    /// What was made between these two.
+    pub fn between(before: Stamps, behind: Stamps) -> Made {
+        if before.last < behind.last {
+            return Made(Some(behind));
+        }
+        Made(None)
+    }
+}
+
+impl Display for Made {
+    fn fmt<W: fmt::Write>(&self, f: &mut Formatter<W>) -> fmt::Result {
+        let Some(Stamps { site, last }) = self.0 else {
+            return Ok(());
+        };
+        write!(f, " stamp {last} {site}")
+    }
+}
+
+/// Tells which stamp was made for who came to the desk, and that so many bytes were the answer,
+/// likewise.
 pub(crate) fn tell_corrected<S: Clock + Log>(
     rt: &S,
     manner: Manner<'_>,
     peer: Whence,
     wire: &Wire,
+    made: Made,
     sent: u64,
 ) {
     if !manner.is_verbose {
         return;
     }
     let (moment, broken) = (Moment::now(rt), Break::of(wire));
-    info!(rt; target: "desk", "{moment} from {peer} sent {sent}{broken}");
+    info!(rt; target: "desk", "{moment} from {peer}{made} sent {sent}{broken}");
 }
 
 /// Tells that a peer was turned away before a byte of it was read, likewise.

@@ -3,7 +3,7 @@
 
 ghost use Rattle.std.specs.Prelude.{◌≡◌, ◌+◌, ◌*◌, ◌<◌, ◌≤◌, ◌⊎◌, [], min, is_some, IsSome};
 ghost use Rattle.std.specs.Prelude.{vec_len, vec_capacity};
-ghost use Rattle.archive_server.specs.Serving.{AllOnward, AreJobs, AreKept, HaveServed, IsKept, WasWritten};
+ghost use Rattle.archive_server.specs.Serving.{AllOnward, AreKept, HaveServed, IsKept, WasWritten};
 ghost use Rattle.archive_server.specs.Serving.{others_in, room_of_all};
 
 use crate::attending::Archive;

@@ -5,7 +5,7 @@ ghost use Rattle.std.specs.Prelude.{◌≡◌, ◌*◌, min};
 ghost use Rattle.core.specs.Duration.{as_nanos};
 ghost use Rattle.archive_server.specs.Visiting.{nanos_between, turns_of};
 
-use crate::wire::{Wire, is_cut_off};
+use crate::wire::{Wire, is_broken_off, is_cut_off};
 use crossbeam_channel::{Receiver, TryRecvError};
 use std::io;
 use std::io::{ErrorKind, Read, Write};
@@ -63,14 +63,22 @@ pub(crate) fn rest_behind(made: Duration) -> Duration
     Duration::from_secs(MOST_REST)
 }
 
+/// Whether a turn ended so that the read or the write is made in the next one.
+fn is_over_next_turn(error: &io::Error) -> bool {
+    is_cut_off(error) || is_broken_off(error)
+}
+
 /// One way of a connection whose waits last a turn. Each read uses up a turn, and each write that
-/// found no room, so that a peer that sends a byte now and then is let go as well.
+/// found no room, so that a peer that sends a byte now and then is let go as well; and so is one
+/// that still takes bytes when all turns have lasted.
 #[derive(Drop)]
 pub(crate) struct Visit<'a, S: Wait + Clock> {
     rt: &'a S,
     wire: &'a Wire,
     ended: &'a Receiver<()>,
     left: u64,
+    /// How long all turns last.
+    most: Duration,
     count: u64,
     /// When it was first seen that bytes went this way, or can go no more, and when last that they
     /// went, as far as a clock says it.
@@ -85,11 +93,13 @@ impl<'a, S: Wait + Clock> Visit<'a, S> {
         ended: &'a Receiver<()>,
         idle: Option<Duration>,
     ) -> Visit<'a, S> {
+        let left = turns_in(idle);
         Visit {
             rt,
             wire,
             ended,
-            left: turns_in(idle),
+            left,
+            most: turn().saturating_mul(left as u32),
             count: 0,
             first: None,
             last: None,
@@ -120,6 +130,17 @@ impl<'a, S: Wait + Clock> Visit<'a, S> {
         true
     }
 
+    /// Whether bytes have gone this way for as long as all turns last, as far as a clock says it.
+    fn is_late(&self) -> bool {
+        match (self.first, Instant::now(self.rt)) {
+            (Some(first), Ok(now)) => {
+                let lasted = now.duration_since(first);
+                self.most.saturating_sub(lasted).is_zero()
+            }
+            _ => false,
+        }
+    }
+
     /// Notes how a read or a write ended, and hands it on.
     fn noted(&mut self, done: io::Result<usize>) -> io::Result<usize>
         ensures { result ≡ done }
@@ -144,7 +165,7 @@ impl<'a, S: Wait + Clock> Read for Visit<'a, S> {
                 break;
             }
             match stream.read(buffer) {
-                Err(error) if is_cut_off(&error) => {}
+                Err(error) if is_over_next_turn(&error) => {}
                 done => return self.noted(done),
             }
         }
@@ -156,8 +177,11 @@ impl<'a, S: Wait + Clock> Write for Visit<'a, S> {
     fn write(&mut self, bytes: &[u8]) -> io::Result<usize> {
         let mut stream = self.wire.stream();
         for _ in 0..MOST_TURNS {
+            if self.is_late() {
+                break;
+            }
             match stream.write(bytes) {
-                Err(error) if is_cut_off(&error) => {}
+                Err(error) if is_over_next_turn(&error) => {}
                 done => return self.noted(done),
             }
             if !self.takes_turn() {

@@ -17,6 +17,9 @@ const PIECE: usize = 16_384;
 /// How many such pieces are read at most: 128 MiB.
 const PIECES: usize = 8_192;
 
+/// How many times at most a read or a write is made again that a signal broke off.
+const AGAIN: usize = 16;
+
 /// The number of no error of the system.
 const NO_ERROR: i32 = 0;
 
@@ -32,6 +35,12 @@ pub struct Wire {
 /// system lets it.
 pub(crate) fn is_cut_off(error: &io::Error) -> bool {
     matches!(error.kind(), ErrorKind::WouldBlock | ErrorKind::TimedOut)
+}
+
+/// What a read or a write is broken off by where the program was stopped and goes on: no byte went,
+/// and it may be made again.
+pub(crate) fn is_broken_off(error: &io::Error) -> bool {
+    error.kind() == ErrorKind::Interrupted
 }
 
 impl Wire {
@@ -134,6 +143,12 @@ impl Wire {
 impl Read for &Wire {
     fn read(&mut self, buffer: &mut [u8]) -> io::Result<usize> {
         let mut stream = &self.stream;
+        for _ in 0..AGAIN {
+            match stream.read(buffer) {
+                Err(error) if is_broken_off(&error) => {}
+                done => return self.noted(done),
+            }
+        }
         self.noted(stream.read(buffer))
     }
 }
@@ -141,6 +156,12 @@ impl Read for &Wire {
 impl Write for &Wire {
     fn write(&mut self, bytes: &[u8]) -> io::Result<usize> {
         let mut stream = &self.stream;
+        for _ in 0..AGAIN {
+            match stream.write(bytes) {
+                Err(error) if is_broken_off(&error) => {}
+                done => return self.noted(done),
+            }
+        }
         self.noted(stream.write(bytes))
     }
 

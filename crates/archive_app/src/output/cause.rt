@@ -27,6 +27,8 @@ pub enum FileCause {
     /// It is a folder that has something else in it.
     Folder,
     NoFolder,
+    /// It is a symbolic link to what is not there.
+    Link,
     NoRights,
     ReadOnly,
     /// It is a device, say, or has a second name.
@@ -135,6 +137,7 @@ fn words_of_file(cause: FileCause) -> &'static str
         FileCause::Absent => "it is not there",
         FileCause::Folder => "it is a folder, and no archive's",
         FileCause::NoFolder => "its folder is not there",
+        FileCause::Link => "it is a link that leads nowhere",
         FileCause::NoRights => "no right to read and write it, or to make files in its folder",
         FileCause::ReadOnly => "its file system is read-only",
         FileCause::NotPlain => "it is no plain file, or has a second name",
@@ -225,7 +228,8 @@ fn words_of_exchange(fault: ExchangeFault) -> &'static str
     ensures { result.now ≡ words_of_fault (CommandFault.Exchange fault) }
 {
     match fault {
-        ExchangeFault::BadFrame => "it sent what is no frame, or one out of its turn",
+        ExchangeFault::BadFrame =>
+            "it sent what is no frame, or one out of its turn, or closed too soon",
         ExchangeFault::TooLong => "a frame is longer than is read or written",
         ExchangeFault::Stranger => "it sent an operation that was not asked for",
         ExchangeFault::Io => "the connection broke off",

@@ -9,11 +9,15 @@ ghost use Rattle.archive_app.specs.Notes.{lacks_log as lacks_log_in, names_folde
 pub enum Note {
     /// A file is reported that is not there.
     Absent,
+    /// A file or a folder is served that was not there.
+    Made,
     /// The log is not beside a file that may have had one.
     WithoutLog,
     /// The records beside a log can't be read: they are damaged, or the system refuses them.
     DamagedRecords,
     NoRecords,
+    /// What leads to the data sets in a folder is empty, and these are there.
+    NoHeads,
     /// They do not follow the log.
     OtherRecords,
     /// A correction's value is no date or no time that a query matches.
@@ -31,11 +35,13 @@ pub fn words_of_note(note: Note) -> &'static str
 {
     match note {
         Note::Absent => "it is not there, and is told as one that has nothing",
+        Note::Made => "it was not there, and is made",
         Note::WithoutLog =>
             "its -wal is not beside it: without it what came last is missing, unless sqlite3 closed it",
         Note::DamagedRecords =>
             "its file records is damaged, and begun anew: this start reads each image",
         Note::NoRecords => "its file records is not used: this start reads each image",
+        Note::NoHeads => "its file heads is empty, and bodies is not: what was there is not read",
         Note::OtherRecords =>
             "its file records does not follow its log: remove it, and the next start makes it anew",
         Note::NoDate => "warning: VALUE is no date that a query matches, such as 20240229",
