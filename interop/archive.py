@@ -1,35 +1,16 @@
-"""The built archive as the scripts here run it, the images that they store, and the count of what they found."""
+"""The built archive as the scripts here run it, and the images that they store."""
 import os
 import re
 import signal
-import socket
 import subprocess
 import sys
 
 sys.path.insert(0, os.path.join(os.path.dirname(os.path.abspath(__file__)), "..", "clients"))
 from dicom import EXPLICIT, elements, image, of_part10, padded, part10  # noqa: E402
+from processes import free_port  # noqa: E402
+from telling import counts, same, told  # noqa: E402,F401
 
 PATIENT_NAME = 0x00100010
-passed = failed = 0
-
-
-def told(what, fault):
-    """Counts an outcome: `fault` is empty where all is well."""
-    global passed, failed
-    if fault:
-        failed += 1
-        print(f"FAILED {what}: {fault}", flush=True)
-    else:
-        passed += 1
-        print(f"ok {what}", flush=True)
-
-
-def counts():
-    return passed, failed
-
-
-def same(found, wanted):
-    return "" if found == wanted else f"got {found}, not {wanted}"
 
 
 def check_status(outcome):
@@ -43,12 +24,6 @@ def client(tool, *words):
         [tool, *words], stdout=subprocess.PIPE, stderr=subprocess.STDOUT, timeout=300,
         env=dict(os.environ, TCP_NODELAY="1"), check=False)
     return done.returncode, done.stdout.decode("latin-1")
-
-
-def free_port():
-    with socket.socket() as s:
-        s.bind(("127.0.0.1", 0))
-        return s.getsockname()[1]
 
 
 class Archive:

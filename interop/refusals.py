@@ -87,6 +87,10 @@ class Refusals:
         told(f"{what}: status {status}" + (f", {line.splitlines()[0]}" if line else ""), fault)
         told(f"{what}: nothing is made or changed", changes(before, below(self.folder)))
 
+    def goes_on(self, what, words, out, err):
+        """A command line that is done without what can't be read: this output, these whole lines, and status 1."""
+        told(f"{what}: it goes on, with status 1", same(self.run(words, NOBODY), (1, out, err + "\n")))
+
     def said(self, words):
         """The status of a command line, and what it wrote on standard error."""
         status, _, err = self.run(words, NOBODY)
@@ -146,7 +150,36 @@ def lines(fault, about, why):
 RIGHTS = "no right to read and write it, or to make files in its folder"
 DAMAGED = "it is damaged, or no archive's file"
 OTHER = "it is no archive's file"
+BAD_ROW = "an operation in it is not what its digest says"
+HIDDEN = ("a rejection note may be among what can't be read: archive exchange with another site, or a restore, mends "
+          "it; --show-without serves without it")
+PARTLY = "some of its operations can't be read"
 WITHOUT_LOG = "its -wal is not beside it: without it what came last is missing, unless sqlite3 closed it"
+
+
+def unread(path, digest):
+    """What is said of a row that is none of an operation, under this text."""
+    return f"archive: {path}: can't be read: SOP Instance UID -, digest {digest}, may be a rejection note"
+
+
+def partly(path, digest):
+    """The lines of a command that is done without such a row, before and behind what it says itself."""
+    return unread(path, digest), "\n".join([
+        f"archive: {path}: can't be read: 1 in all", lines("fault shelf 2", path, PARTLY)])
+
+
+def try_unread(refusals, what, name, digest, words, out):
+    """Commands on a file of which one row can't be read, under this text: a start refuses, as a note may be in it, and
+    a correction, as another may be; a report says so, and is done without it, with this output. All leave the file as
+    it was. `words` has them by their names."""
+    path = refusals.path(name)
+    refusals.refused(f"serve of {what}", words["serve"], 1, "\n".join([
+        unread(path, digest), lines("fault shelf 2", path, HIDDEN)]))
+    refusals.refused(f"correct of {what}", words["correct"], 1, "\n".join([
+        unread(path, digest), lines("fault shelf 2", path, BAD_ROW)]))
+    before = below(refusals.folder)
+    refusals.goes_on(f"report of {what}", words["report"], out, "\n".join(partly(path, digest)))
+    told(f"report of {what}: nothing is made or changed", changes(before, below(refusals.folder)))
 
 
 def on_file(refusals, file):
@@ -194,6 +227,19 @@ def make_files(refusals):
             os.chmod(refusals.path(name), 0o666)
 
 
+def try_changed(refusals, name):
+    """Of two corrections in a file one can't be read: a report and an exchange go on without it."""
+    path, words = refusals.path(name), dict(on_file(refusals, name))
+    database = sqlite3.connect(path)
+    digest = database.execute("SELECT min(digest) FROM ops2").fetchone()[0]
+    database.close()
+    peer = words["exchange"][3]
+    refusals.refused("exchange of a FILE with an operation changed, with nobody", words["exchange"], 1, "\n".join([
+        unread(path, digest), lines("fault net 3", peer, "nobody listens there")]))
+    try_unread(refusals, "a FILE with an operation changed", name, digest, words,
+               "operations 1\ncontents 0\ncorrections 1\nseries 0\nend 0\n")
+
+
 def try_files(refusals):
     make_files(refusals)
     for file, why in (("a folder", "it is a folder, and no archive's"), ("a text", OTHER), ("one octet", OTHER), ("zeros", OTHER),
@@ -202,9 +248,7 @@ def try_files(refusals):
         for command, words in on_file(refusals, file):
             refusals.refused(f"{command} of a FILE that is {file}", words, 1,
                              lines("fault shelf 1", refusals.path(file), why))
-    for command, words in on_file(refusals, "an operation changed"):
-        refusals.refused(f"{command} of a FILE with an operation changed", words, 1, lines(
-            "fault shelf 2", refusals.path("an operation changed"), "an operation in it is not what its digest says"))
+    try_changed(refusals, "an operation changed")
     for command, words in on_file(refusals, "a folder that is not there/new")[:1]:
         refusals.refused(f"{command} of a FILE in no folder", words, 1, lines(
             "fault shelf 1", refusals.path("a folder that is not there/new"), "its folder is not there"))

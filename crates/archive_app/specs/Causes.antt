@@ -1,5 +1,5 @@
 -- Why a command is refused, in words.
-use Rattle.std.specs.Prelude.{ℕ, ◌≡◌, ◌↔◌, List, codes, Option, Some, None, Bool, true, false}
+use Rattle.std.specs.Prelude.{ℕ, ◌≡◌, ◌↔◌, ◌++◌, List, codes, Option, Some, None, Bool, true, false}
 use Rattle.std.specs.declared.io.ErrorKind.{ErrorKind}
 use Rattle.std.specs.declared.io.ErrorKind.TheVariants as kind
 use Rattle.sqlite.specs.declared.error.Error.{Error}
@@ -40,10 +40,16 @@ words_of_file file.NotPlain = codes "it is no plain file, or has a second name"
 words_of_file file.OtherKind = codes "it is no archive's file"
 words_of_file file.OtherDatabase = codes "it is another program's database"
 words_of_file file.Damaged = codes "it is damaged, or no archive's file"
+words_of_file (file.Heads at) = codes "its file heads is damaged, or leads behind the end of bodies, at byte"
 words_of_file file.Journal = codes "a rollback journal is beside it: open it with sqlite3 first"
 words_of_file file.Full = codes "the disk is full"
 words_of_file file.Failed = codes "the disk failed"
 words_of_file file.Unopened = codes "it could not be opened"
+words_of_file file.Unreadable = codes "some of its operations can't be read"
+words_of_file file.Hidden =
+    codes "a rejection note may be among what can't be read: archive exchange with another site, or a restore, "
+    ++ codes "mends it; --show-without serves without it"
+words_of_file file.LostFrames = codes "its -wal is damaged, and an open would lose frames: archive move brings out the rest"
 
 -- what an address refuses for
 abbrev pub words_of_net : NetCause → List ℕ
@@ -124,6 +130,11 @@ words_of (cause.File cause) = words_of_file cause
 words_of (cause.Net cause) = words_of_net cause
 words_of (cause.Part part) = words_of_part part
 words_of (cause.Fault fault) = words_of_fault fault
+
+-- the byte of a file at which it is, where that is known
+abbrev pub place_in : Cause → Option ℕ
+place_in (cause.File (file.Heads at)) = Some at
+place_in _ = None
 
 -- why a file is refused, by the kind of the system's error
 abbrev pub file_cause_of : ErrorKind → FileCause

@@ -2,6 +2,7 @@
 use Rattle.std.specs.Prelude.{ℕ, ◌+◌, List, [], ◌∷◌, ◌++◌, codes}
 use Rattle.site_simulation.specs.Simulation.{number_of as number_of_script}
 use Rattle.op_shelf.specs.Fault.{number_of as number_of_shelf}
+use Rattle.op_shelf.specs.declared.fault.ShelfFault.TheVariants.{BadRow}
 use Rattle.site_state.specs.Fault.{number_of as number_of_site}
 use Rattle.site_hub.specs.Fault.{number_of as number_of_hub}
 use Rattle.association_run.specs.Fault.{number_of as number_of_run}
@@ -12,7 +13,7 @@ use Rattle.archive_server.specs.declared.fault.ServeFault.TheVariants.{Net as of
 use Rattle.archive_server.specs.Fault.{number_of as number_of_net}
 use Rattle.shelved_site.specs.declared.fault.ShelvedFault.{ShelvedFault}
 use Rattle.shelved_site.specs.declared.fault.ShelvedFault.TheVariants.{Shelf as of_shelf, Site as of_site}
-use Rattle.shelved_site.specs.declared.fault.ShelvedFault.TheVariants.{Hub as of_hub}
+use Rattle.shelved_site.specs.declared.fault.ShelvedFault.TheVariants.{Hub as of_hub, Hidden as of_hidden}
 use Rattle.site_desk.specs.declared.ask_fault.AskFault.{AskFault}
 use Rattle.site_desk.specs.declared.ask_fault.AskFault.TheVariants.{Broken, TooLong, NoAnswer, Memory, Refused}
 use Rattle.site_desk.specs.declared.ask_fault.AskFault.TheVariants.{Unready, Unsaid}
@@ -50,6 +51,7 @@ abbrev pub fault_of_shelved : ShelvedFault → CommandFault
 fault_of_shelved (of_shelf fault) = Shelf fault
 fault_of_shelved (of_site fault) = Site fault
 fault_of_shelved (of_hub fault) = Hub fault
+fault_of_shelved of_hidden = Shelf BadRow
 
 -- the fault of a server as a command tells it
 abbrev pub fault_of_served : ServeFault → CommandFault

@@ -1,5 +1,5 @@
 -- What commands print.
-use Rattle.std.specs.Prelude.{ℕ, List, [], ◌++◌, ◌∷◌, length, codes, Bool, true, false}
+use Rattle.std.specs.Prelude.{ℕ, ◌==◌, List, [], ◌++◌, ◌∷◌, length, codes, Bool, true, false, if◌then◌else◌}
 use Rattle.std.specs.Fmt.{decimal}
 use Rattle.std.specs.List.{flat_map}
 use Rattle.hex.specs.Hex.{encode_lower}
@@ -46,11 +46,15 @@ abbrev pub finished_line : Bool → List ℕ
 finished_line true = line (codes "finished yes")
 finished_line false = line (codes "finished no")
 
+-- how many operations could not be read, where there are some
+abbrev pub unread_lines : ℕ → List ℕ
+unread_lines unread = if unread == 0 then [] else message_line (codes "unread") unread
+
 -- what came of an exchange
 abbrev pub exchange_lines : Ended → List ℕ
 exchange_lines ended =
     message_line (codes "given") ended.given
-    ++ (message_line (codes "taken") ended.taken ++ finished_line ended.finished)
+    ++ (message_line (codes "taken") ended.taken ++ (unread_lines ended.unread ++ finished_line ended.finished))
 
 -- what a move brought
 abbrev pub move_lines : Moved → List ℕ

@@ -4,8 +4,9 @@ use Rattle.std.specs.Prelude.{nat_eq, slice_get, Option, Some, None}
 use Rattle.std.specs.Cmp.Lexicographic.{pointwise}
 use Rattle.std.specs.List.{ends_with}
 use Rattle.archive_app.specs.declared.output.notes.Note.{Note}
-use Rattle.archive_app.specs.declared.output.notes.Note.TheVariants.{Absent, Made, WithoutLog, NoDate, NoTime}
+use Rattle.archive_app.specs.declared.output.notes.Note.TheVariants.{Absent, Made, WithoutLog, ShownWithout, NoDate, NoTime}
 use Rattle.archive_app.specs.declared.output.notes.Note.TheVariants.{DamagedRecords, NoRecords, NoHeads, OtherRecords}
+use Rattle.archive_app.specs.declared.output.notes.Note.TheVariants.{RenewedHeads, HiddenGroup, LostFrames, RestOfLog}
 use Rattle.archive_app.specs.declared.output.notes.Note.TheVariants.{UnknownStudy, UnknownPatient, UnknownSeries}
 
 -- each note in words
@@ -17,8 +18,14 @@ words_of_note WithoutLog =
 words_of_note DamagedRecords = codes "its file records is damaged, and begun anew: this start reads each image"
 words_of_note NoRecords = codes "its file records is not used: this start reads each image"
 words_of_note NoHeads = codes "its file heads is empty, and bodies is not: what was there is not read"
+words_of_note RenewedHeads = codes "its file heads was of an older form, and is renewed"
+words_of_note HiddenGroup = codes "its older heads have a group behind their end, which does not count: see heads.older"
 words_of_note OtherRecords =
     codes "its file records does not follow its log: remove it, and the next start makes it anew"
+words_of_note ShownWithout =
+    codes "warning: it is served without what can't be read: what a note hides may be shown"
+words_of_note LostFrames = codes "its -wal is damaged: what stands behind the damage is not read"
+words_of_note RestOfLog = codes "frames stand behind the end of its -wal: a crash left them, or a disk that changed"
 words_of_note NoDate = codes "warning: VALUE is no date that a query matches, such as 20240229"
 words_of_note NoTime = codes "warning: VALUE is no time that a query matches, such as 101530"
 words_of_note UnknownStudy = codes "warning: it has nothing of this study, or not yet"

@@ -7,7 +7,7 @@ use crate::asking::{correct_at, report_at};
 use crate::correct::correct;
 use crate::exchanging::exchange;
 use crate::moving::move_operations;
-use crate::refused::{Refused, about};
+use crate::refused::{Done, Refused, about};
 use crate::report::report;
 use crate::serve::serve;
 use crate::simulate::answer_script;
@@ -24,13 +24,24 @@ use std::sync::Wait;
 use std::thread::Threads;
 use std::time::Clock;
 
-/// What is left to print on standard output, or why there is nothing.
-pub type Answered<'a> = std::result::Result<Vec<u8>, Refused<'a>>;
+/// What is left to print on standard output and to tell behind it, or why there is nothing.
+pub type Answered<'a> = std::result::Result<Done<'a>, Refused<'a>>;
 
 /// A command that has printed what it has to.
 fn printed<'a, T: Drop>(alloc: Global, ended: std::result::Result<T, Refused<'a>>) -> Answered<'a> {
     match ended {
-        Ok(_) => Ok(Vec::new(alloc)),
+        Ok(_) => Ok(Done {
+            text: Vec::new(alloc),
+            behind: None,
+        }),
+        Err(refused) => Err(refused),
+    }
+}
+
+/// A command that leaves a text to print.
+fn told<'a>(ended: std::result::Result<Vec<u8>, Refused<'a>>) -> Answered<'a> {
+    match ended {
+        Ok(text) => Ok(Done { text, behind: None }),
         Err(refused) => Err(refused),
     }
 }
@@ -75,7 +86,7 @@ pub fn answer_wanted<
 {
     match wanted {
         Wanted::Here(asked) => answer(rt, host, asked),
-        Wanted::CorrectAt(correcting) => Ok(correct_at(rt, host, correcting)),
-        Wanted::ReportAt(reporting) => Ok(report_at(rt, host, reporting)),
+        Wanted::CorrectAt(correcting) => Ok(told(correct_at(rt, host, correcting))),
+        Wanted::ReportAt(reporting) => Ok(told(report_at(rt, host, reporting))),
     }
 }

@@ -1,13 +1,14 @@
 //! `archive correct`: corrects an attribute in a file or a folder.
 
 use crate::file::{OnStore, on_shelf};
-use crate::folder::{is_absent, is_folder, site_in};
+use crate::folder::{Starting, is_absent, is_folder, site_in};
 use crate::output::{Cause, CommandFault, Note, line_of_stamp};
-use crate::refused::{Refused, about, note};
+use crate::refused::{Done, Refused, about, done_without, note};
 use command_words::{Change, Correcting, Part, bad_part, unmatched};
 use key_matching::Matching;
+use op_shelf::ShelfFault;
 use operation::Target;
-use shelved_site::{Corrected, Store, correct_on, correct_with};
+use shelved_site::{Corrected, Store, correct_with, site_on};
 use site_hub::{HubFault, next_correction};
 use site_state::Site;
 use std::alloc::Global;
@@ -42,24 +43,40 @@ fn note_of_target(target: &Target) -> Note {
 
 /// A correction that a site makes.
 #[derive(Drop)]
-struct Making {
-    alloc: Global,
+struct Making<'a> {
+    rt: &'a HostRuntime,
+    file: &'a str,
     site: u16,
     change: Change,
 }
 
-impl OnStore for Making {
-    type Told = Result<Corrected, CommandFault>;
+/// A correction that was made, and without how many operations.
+type Made = (Corrected, u64);
 
-    fn on<S: Store + Drop + Send>(self, mut store: S) -> Result<Corrected, CommandFault> {
+impl<'a> OnStore for Making<'a> {
+    type Told = Result<Made, CommandFault>;
+
+    fn on<S: Store + Drop + Send>(self, mut store: S) -> Result<Made, CommandFault> {
         let Making {
-            alloc,
+            rt,
+            file,
             site,
             change,
         } = self;
         let Change { target, tag, value } = change;
-        let made = correct_on(alloc, &mut store, site, target, tag, value)?;
-        Ok(made)
+        let starting = Starting::begins(rt, file);
+        let sited = match site_on(rt.alloc(), &mut store, &starting) {
+            Ok(sited) => sited,
+            Err(fault) => return Err(CommandFault::from(fault)),
+        };
+        // A row that can't be read may be a correction, whose stamp would be given again.
+        if !sited.unreadable.is_empty() {
+            return Err(CommandFault::Shelf(ShelfFault::BadRow));
+        }
+        match correct_with(&mut store, &sited.site, site, target, tag, value) {
+            Ok(made) => Ok((made, 0)),
+            Err(fault) => Err(CommandFault::from(fault)),
+        }
     }
 }
 
@@ -68,19 +85,16 @@ fn made_in_folder<'a, T: Threads + Sync>(
     rt: &HostRuntime,
     threads: &T,
     folder: &'a str,
-    making: Making,
-) -> Result<Corrected, Refused<'a>> {
-    let Making {
-        alloc: _,
-        site: number,
-        change,
-    } = making;
+    number: u16,
+    change: Change,
+) -> Result<Made, Refused<'a>> {
     let Change { target, tag, value } = change;
-    let (site, mut log) = site_in(rt, threads, folder)?;
-    about(
+    let (sited, mut log) = site_in(rt, threads, folder)?;
+    let made = about(
         folder,
-        correct_with(&mut log, &site, number, target, tag, value),
-    )
+        correct_with(&mut log, &sited.site, number, target, tag, value),
+    )?;
+    Ok((made, sited.unreadable.len() as u64))
 }
 
 /// Makes a correction in a file. Where the file is not there, what may not be corrected is refused
@@ -91,18 +105,19 @@ fn made<'a, T: Threads + Sync>(
     file: &'a str,
     site: u16,
     change: Change,
-) -> Result<Corrected, Refused<'a>> {
+) -> Result<Made, Refused<'a>> {
     if is_absent(rt, file) {
         about(file, refuse_first(rt.alloc(), site, &change))?;
     }
+    if is_folder(rt, file) {
+        return made_in_folder(rt, threads, file, site, change);
+    }
     let making = Making {
-        alloc: rt.alloc(),
+        rt,
+        file,
         site,
         change,
     };
-    if is_folder(rt, file) {
-        return made_in_folder(rt, threads, file, making);
-    }
     about(file, on_shelf(rt, file, making)?)
 }
 
@@ -118,16 +133,18 @@ fn with_part<'a>(refused: Refused<'a>, bad: Option<Part>) -> Refused<'a> {
 }
 
 /// Makes a correction, and says its stamp once the file has it. It warns of a value that no query
-/// matches, and of a target of which the site has nothing.
+/// matches, and of a target of which the site has nothing. Where a row of a file can't be read, none
+/// is made; of a folder, whose corrections stand in its heads, the site is without what can't be
+/// read, and then it ends with a fault.
 pub fn correct<'a, T: Threads + Sync>(
     rt: &HostRuntime,
     threads: &T,
     correcting: Correcting<'a>,
-) -> Result<Vec<u8>, Refused<'a>> {
+) -> Result<Done<'a>, Refused<'a>> {
     let Correcting { file, site, change } = correcting;
     let (of_value, of_target) = (note_of_value(&change), note_of_target(&change.target));
     let bad = about(file, bad_part(rt.alloc(), &change))?;
-    let made = match made(rt, threads, file, site, change) {
+    let (made, unread) = match made(rt, threads, file, site, change) {
         Ok(made) => made,
         Err(refused) => return Err(with_part(refused, bad)),
     };
@@ -137,5 +154,6 @@ pub fn correct<'a, T: Threads + Sync>(
     if !made.is_known {
         note(rt, file, of_target);
     }
-    about(file, line_of_stamp(rt.alloc(), made.stamp))
+    let text = about(file, line_of_stamp(rt.alloc(), made.stamp))?;
+    Ok(done_without(rt, file, text, unread))
 }

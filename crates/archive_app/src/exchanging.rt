@@ -4,17 +4,17 @@ ghost use Rattle.std.specs.Prelude.{◌≡◌, if◌then◌else◌, IfErr};
 ghost use Rattle.archive_app.specs.Causes.{is_own as is_own_in};
 
 use crate::file::{OnStore, on_shelf};
-use crate::folder::{is_absent, is_folder, site_in};
+use crate::folder::{Starting, is_absent, is_folder, site_in};
 use crate::output::{CommandFault, NetCause, lines_of_exchange, reach_cause_of};
 use crate::progress::{Progress, Reading, Writing};
-use crate::refused::{Refused, about};
+use crate::refused::{Done, Refused, about, done_without};
 use crate::serve::wait_of;
 use archive_server::{NetFault, Wire};
 use command_words::Exchanging;
 use devices::Counted;
 use exchange::{Ended, ExchangeFault, MOST_EXCHANGES, Role};
 use hub_exchange::{Behind, exchange_on};
-use shelved_site::{Store, site_on};
+use shelved_site::{Sited, Store, site_on};
 use site_state::Site;
 use std::net::{Net, TcpListener, TcpStream};
 use std::rt::HostRuntime;
@@ -66,9 +66,14 @@ fn told_of<'a>(
     Err(Refused::of(exchanging.peer, told))
 }
 
-/// Says on standard error whether both sides agreed. A line that it refuses is dropped.
+/// Says on standard error whether both sides agreed, which they did not where this side could not
+/// read all that it was to give. A line that it refuses is dropped.
 fn say_agreement(rt: &HostRuntime, ended: Ended) {
-    let agree = if ended.agreed { "yes" } else { "no" };
+    let agree = if ended.agreed && ended.unread == 0 {
+        "yes"
+    } else {
+        "no"
+    };
     let _ = eprintln!(rt; "agree {agree}");
 }
 
@@ -88,6 +93,9 @@ fn exchange_over<S: Store + Drop>(
     behind
 }
 
+/// What came of exchanges, and how many operations of this side can't be read.
+type Met = (Ended, u64);
+
 /// The exchanges with the site at an address, the first over a connection if it is made already.
 #[derive(Drop)]
 struct Meeting<'h, 'a, R: Net<Listener = TcpListener, Stream = TcpStream>> {
@@ -99,7 +107,12 @@ struct Meeting<'h, 'a, R: Net<Listener = TcpListener, Stream = TcpStream>> {
 
 impl<'h, 'a, R: Net<Listener = TcpListener, Stream = TcpStream>> Meeting<'h, 'a, R> {
     /// The exchanges of a site on its store.
-    fn meet<S: Store + Drop>(self, mut site: Site, mut store: S) -> Result<Ended, Refused<'a>> {
+    fn meet<S: Store + Drop>(self, sited: Sited, mut store: S) -> Result<Met, Refused<'a>> {
+        let Sited {
+            mut site,
+            unreadable,
+        } = sited;
+        let unread = unreadable.len() as u64;
         let Meeting {
             rt,
             net,
@@ -121,24 +134,23 @@ impl<'h, 'a, R: Net<Listener = TcpListener, Stream = TcpStream>> Meeting<'h, 'a,
             let last = told_of(exchanging, wire.is_silent(), ended)?;
             all = all.with_last(last);
             if !all.is_followed(last) {
-                return Ok(all);
+                return Ok((all, unread));
             }
             site = next;
             store = shelf;
         }
-        Ok(all)
+        Ok((all, unread))
     }
 }
 
 impl<'h, 'a, R: Net<Listener = TcpListener, Stream = TcpStream>> OnStore for Meeting<'h, 'a, R> {
-    type Told = Result<Ended, Refused<'a>>;
+    type Told = Result<Met, Refused<'a>>;
 
-    fn on<S: Store + Drop + Send>(self, mut store: S) -> Result<Ended, Refused<'a>> {
-        let progress = Progress::of(self.rt);
-        progress.begins(self.exchanging.file);
-        let site = site_on(self.rt.alloc(), &mut store, &progress);
-        match about(self.exchanging.file, site) {
-            Ok(site) => self.meet(site, store),
+    fn on<S: Store + Drop + Send>(self, mut store: S) -> Result<Met, Refused<'a>> {
+        let starting = Starting::begins(self.rt, self.exchanging.file);
+        let sited = site_on(self.rt.alloc(), &mut store, &starting);
+        match about(self.exchanging.file, sited) {
+            Ok(sited) => self.meet(sited, store),
             Err(refused) => Err(refused),
         }
     }
@@ -149,26 +161,26 @@ fn meet_in_folder<'a, R: Net<Listener = TcpListener, Stream = TcpStream> + Threa
     rt: &HostRuntime,
     folder: &'a str,
     meeting: Meeting<'_, 'a, R>,
-) -> Result<Ended, Refused<'a>> {
-    let (site, log) = site_in(rt, meeting.net, folder)?;
-    meeting.meet(site, log)
+) -> Result<Met, Refused<'a>> {
+    let (sited, log) = site_in(rt, meeting.net, folder)?;
+    meeting.meet(sited, log)
 }
 
 /// Exchanges the operations in a file with the site at an address, and says what came of it. Where
 /// not all fits into one exchange another follows, over a connection of its own, until both agree,
 /// one brings nothing or one is not finished, 257 at most. What was given and taken is then said of
-/// all of them, and whether it was finished and both agreed of the last.
+/// all of them, and what could not be read, whether it was finished and both agreed of the last.
 ///
 /// What is taken is in the store before it counts as given, and stays there whatever comes after.
 /// Refusals come in this order: the store, the site, the connection, the exchange. Where the file
 /// is not there the connection comes first, so that no file is made where nobody answers. At a
 /// terminal it says meanwhile how far it is. On standard error it says in the end whether both
-/// sides agreed.
+/// sides agreed. What can't be read here is said and left out, and it then ends with a fault.
 pub fn exchange<'a, R: Net<Listener = TcpListener, Stream = TcpStream> + Threads + Sync>(
     rt: &HostRuntime,
     net: &R,
     exchanging: Exchanging<'a>,
-) -> Result<Vec<u8>, Refused<'a>> {
+) -> Result<Done<'a>, Refused<'a>> {
     let file = exchanging.file;
     let connected = match is_absent(rt, file) {
         true => Some(connect_to(net, exchanging.peer, exchanging.idle)?),
@@ -180,11 +192,12 @@ pub fn exchange<'a, R: Net<Listener = TcpListener, Stream = TcpStream> + Threads
         exchanging,
         connected,
     };
-    let ended = if is_folder(rt, file) {
+    let (ended, unread) = if is_folder(rt, file) {
         meet_in_folder(rt, file, meeting)?
     } else {
         on_shelf(rt, file, meeting)??
     };
     say_agreement(rt, ended);
-    about(file, lines_of_exchange(rt.alloc(), ended))
+    let lines = about(file, lines_of_exchange(rt.alloc(), ended))?;
+    Ok(done_without(rt, file, lines, unread))
 }

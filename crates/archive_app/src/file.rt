@@ -1,6 +1,7 @@
 //! The file of a site's shelf.
 
 use crate::folder::{is_folder, log_to_fill, on_log};
+use crate::log_tail::see_tail;
 use crate::output::{
     CommandFault, FileCause, Note, file_cause_in_error, file_cause_of, is_other, lacks_log,
 };
@@ -163,8 +164,8 @@ pub fn refused<'a>(rt: &HostRuntime, file: &'a str, error: Error) -> Refused<'a>
     }
 }
 
-/// Refuses a file that is there and of another kind, before anything is made beside it, and says
-/// where one may lack its log.
+/// Refuses a file that is there and of another kind, before anything is made beside it, and one of
+/// whose log an open would lose what may count; and says where a file may lack its log.
 pub fn see_kind<'a>(rt: &HostRuntime, file: &'a str) -> Result<(), Refused<'a>> {
     let Some(front) = front_of(rt, file) else {
         return Ok(());
@@ -173,6 +174,7 @@ pub fn see_kind<'a>(rt: &HostRuntime, file: &'a str) -> Result<(), Refused<'a>> 
         let fault = CommandFault::Shelf(ShelfFault::Store(StoreCause::Other));
         return Err(Refused::file(file, fault, FileCause::OtherKind));
     }
+    see_tail(rt, file)?;
     note_log(rt, file);
     Ok(())
 }

@@ -6,14 +6,15 @@ ghost use Rattle.archive_app.specs.Notes.{names_folder as names_folder_in};
 use crate::file::{OnStore, is_new};
 use crate::output::{CommandFault, FileCause, Note, file_cause_of, names_folder};
 use crate::progress::Progress;
-use crate::refused::{Refused, about, note};
+use crate::refused::{Refused, about, note, note_unread};
 use head_log::{HeadFault, HeadLog};
-use op_log::{FolderFault, FolderFile, FolderLog, LogFault, open_folder, records_file};
+use op_log::{
+    FolderFault, FolderFile, FolderLog, LogFault, OpenedFolder, open_folder, records_file,
+};
 use op_shelf::{ShelfFault, StoreCause};
 use record_log::{Told, all_told, open_told};
 use records::RecordedContent;
-use shelved_site::{Hearing, KeptLog, shelf_fault, site_on_log};
-use site_state::Site;
+use shelved_site::{Following, Hearing, KeptLog, Sited, Unreadable, shelf_fault, site_on_log};
 use sqlite::Wary;
 use std::alloc::AllocError;
 use std::fs;
@@ -56,20 +57,24 @@ fn length_of(rt: &HostRuntime, folder: &str, name: &str) -> Option<u64> {
     }
 }
 
-/// Whether records are beside a log. A file of no byte, or of one, has none, and would be begun.
+/// The most bytes that a file of groups has while no group is in it: those of a shut gate.
+const NO_GROUP: u64 = 8;
+
+/// Whether records are beside a log. A file that has none, or less, would be begun.
 fn has_records(rt: &HostRuntime, folder: &str) -> bool {
-    length_of(rt, folder, "records").unwrap_or(0) > 1
+    length_of(rt, folder, "records").unwrap_or(0) > NO_GROUP
 }
 
 /// Whether a log has heads, and no file that they lead to.
 fn lacks_bodies(rt: &HostRuntime, folder: &str) -> bool {
-    length_of(rt, folder, "heads").unwrap_or(0) > 1 && length_of(rt, folder, "bodies").is_none()
+    length_of(rt, folder, "heads").unwrap_or(0) > NO_GROUP
+        && length_of(rt, folder, "bodies").is_none()
 }
 
 /// Whether data sets are in a folder, and nothing leads to them: as a copy that broke off leaves
 /// it, or a crash in the first put.
 fn lacks_heads(rt: &HostRuntime, folder: &str) -> bool {
-    length_of(rt, folder, "heads").unwrap_or(0) <= 1
+    length_of(rt, folder, "heads").unwrap_or(0) <= NO_GROUP
         && length_of(rt, folder, "bodies").unwrap_or(0) > 1
 }
 
@@ -105,7 +110,7 @@ fn refused_for<'a>(folder: &'a str, cause: FileCause) -> Refused<'a> {
 fn refused_log<'a>(folder: &'a str, fault: LogFault) -> Refused<'a> {
     let told = CommandFault::Shelf(shelf_fault(fault));
     match fault {
-        LogFault::DamagedHeads(_) => Refused::file(folder, told, FileCause::Damaged),
+        LogFault::DamagedHeads(at) => Refused::file(folder, told, FileCause::Heads(at)),
         _ => Refused::of(folder, told),
     }
 }
@@ -133,7 +138,8 @@ fn refusal_of<'a>(rt: &HostRuntime, folder: &'a str) -> Option<Refused<'a>> {
 }
 
 /// Opens the log in a folder, of which nothing is supposed. The folder is made where it is not
-/// there; one that has something else in it is refused before anything is made.
+/// there; one that has something else in it is refused before anything is made. What is of the
+/// older form is renewed, and that is said.
 pub fn log_in<'a>(rt: &HostRuntime, folder: &'a str) -> Result<FolderLog, Refused<'a>> {
     if let Some(refused) = refusal_of(rt, folder) {
         return Err(refused);
@@ -141,39 +147,68 @@ pub fn log_in<'a>(rt: &HostRuntime, folder: &'a str) -> Result<FolderLog, Refuse
     if lacks_heads(rt, folder) {
         note(rt, folder, Note::NoHeads);
     }
-    open_folder(rt, folder).map_err(|fault| refused(folder, fault))
+    match open_folder(rt, folder) {
+        Ok(
+            OpenedFolder {
+                log,
+                is_renewed,
+                hid_a_group,
+            },
+        ) => {
+            if is_renewed {
+                note(rt, folder, Note::RenewedHeads);
+            }
+            if hid_a_group {
+                note(rt, folder, Note::HiddenGroup);
+            }
+            Ok(log)
+        }
+        Err(fault) => Err(refused(folder, fault)),
+    }
 }
 
-/// Who hears of the start over a folder.
+/// Who hears of what is read of a file or a folder.
 #[derive(Drop)]
 pub struct Starting<'a> {
     rt: &'a HostRuntime,
-    folder: &'a str,
+    file: &'a str,
     progress: Progress<'a>,
 }
 
 impl<'a> Starting<'a> {
-    pub fn of(rt: &'a HostRuntime, folder: &'a str) -> Starting<'a> {
-        Starting {
-            rt,
-            folder,
-            progress: Progress::of(rt),
-        }
-    }
-
-    /// The operations in the folder are read.
-    pub fn begins(&self) {
-        self.progress.begins(self.folder);
+    /// Its operations are read.
+    pub fn begins(rt: &'a HostRuntime, file: &'a str) -> Starting<'a> {
+        let progress = Progress::of(rt);
+        progress.begins(file);
+        Starting { rt, file, progress }
     }
 }
 
 impl Hearing for Starting<'_> {
     fn has_read(&self, operations: usize) {
-        Hearing::has_read(&self.progress, operations);
+        self.progress.has_read(operations);
+    }
+
+    fn cannot_read(&self, unreadable: &Unreadable) {
+        note_unread(self.rt, self.file, unreadable);
     }
 
     fn has_other_records(&self) {
-        note(self.rt, self.folder, Note::OtherRecords);
+        note(self.rt, self.file, Note::OtherRecords);
+    }
+}
+
+impl Following for Starting<'_> {
+    fn has_read(&self, operations: usize) {
+        self.progress.moves(operations);
+    }
+
+    fn cannot_read(&self, unreadable: &Unreadable) {
+        note_unread(self.rt, self.file, unreadable);
+    }
+
+    fn has_put(&self, operations: usize) {
+        self.progress.has_put(operations);
     }
 }
 
@@ -250,14 +285,13 @@ fn sited<'a, T: Threads + Sync>(
     folder: &'a str,
     mut log: FolderStore,
     told: &[RecordedContent],
-) -> Result<(Site, FolderStore), Refused<'a>> {
-    let starting = Starting::of(rt, folder);
-    starting.begins();
+) -> Result<(Sited, FolderStore), Refused<'a>> {
+    let starting = Starting::begins(rt, folder);
     match about(
         folder,
         site_on_log(rt.alloc(), threads, &mut log, told, &starting),
     ) {
-        Ok(site) => Ok((site, log)),
+        Ok(sited) => Ok((sited, log)),
         Err(refused) => Err(refused),
     }
 }
@@ -268,7 +302,7 @@ pub fn site_to_view<'a, T: Threads + Sync>(
     rt: &HostRuntime,
     threads: &T,
     folder: &'a str,
-) -> Result<(Site, FolderStore), Refused<'a>> {
+) -> Result<(Sited, FolderStore), Refused<'a>> {
     let log = log_to_view(rt, folder)?;
     let told = told_to_view(rt, folder);
     sited(rt, threads, folder, log, told.as_slice())
@@ -279,7 +313,7 @@ pub fn site_in<'a, T: Threads + Sync>(
     rt: &HostRuntime,
     threads: &T,
     folder: &'a str,
-) -> Result<(Site, FolderStore), Refused<'a>> {
+) -> Result<(Sited, FolderStore), Refused<'a>> {
     let log = log_in(rt, folder)?;
     let Told {
         contents,

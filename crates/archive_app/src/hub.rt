@@ -1,18 +1,22 @@
 //! The hub of a site that is served: how it is opened over a store, and closed behind what was
 //! served.
 
-ghost use Rattle.std.specs.Prelude.{◌≤◌, [], IfOk};
+ghost use Rattle.std.specs.Prelude.{◌≡◌, ◌≤◌, [], Ok, IfOk};
+ghost use Rattle.command_words.specs.Words.{HasPlaces};
 ghost use Rattle.shelved_site.specs.Keeping.{IsUp, log_of};
-ghost use Rattle.shelved_site.specs.Stores.{listed_in};
+ghost use Rattle.shelved_site.specs.Readable.{shown_in};
 ghost use Rattle.shelved_site.specs.Told.{IsOpenedOn};
 
+use crate::duties::passes_for;
 use crate::folder::Starting;
-use crate::output::CommandFault;
-use crate::progress::Progress;
+use crate::output::{CommandFault, FileCause, Note};
+use crate::refused::{Refused, note, note_count};
 use archive_server::{ServeFault, Served};
+use command_words::Serving;
+use op_shelf::ShelfFault;
 use records::RecordedContent;
-use shelved_site::{KeptLog, Store, hub_on, hub_on_log};
-use site_hub::{CloseFault, HubFault, HubName, Keeper, Opened, Pass, Snapshot, close};
+use shelved_site::{Asked, Begun, KeptLog, ShelvedFault, Store, hub_on, hub_on_log};
+use site_hub::{CloseFault, HubFault, HubName, Keeper, Pass, Snapshot, close};
 use sqlite_disk::Disk;
 use std::rt::HostRuntime;
 use std::sync::{Mutex, Wait};
@@ -21,41 +25,77 @@ use std::thread::Threads;
 /// The number of the site for a keeper that makes no correction: a desk has that which is named.
 const SITE: u16 = 1;
 
-/// The hub of a site whose operations stand in a store, with so many passes.
-pub fn hub_of<'r, R: Wait, S: Store>(
+/// What is asked of a hub that is served so.
+fn asked_by(serving: &Serving<'_>) -> Asked
+    requires places { HasPlaces serving.now }
+    ensures number { 1 ≤ result.number }
+    ensures passes { (1 ≤ result.passes) × (result.passes ≤ 64) }
+{
+    Asked {
+        number: SITE,
+        passes: passes_for(serving),
+        shows_without: serving.shows_without,
+    }
+}
+
+/// A hub that was opened, or why none was. What can't be read was said, and is counted.
+fn begun<'a, R: Wait + Drop>(
+    host: &HostRuntime,
+    serving: &Serving<'a>,
+    opened: Result<Begun<R>, ShelvedFault>,
+) -> Result<Begun<R>, Refused<'a>>
+    ensures { IfOk result (λ begun. opened ≡ Ok begun) }
+{
+    let file = serving.file;
+    match opened {
+        Ok(begun) => {
+            note_count(host, file, begun.unreadable.len() as u64);
+            if begun.unreadable.iter().any(|one| one.may_hide) {
+                note(host, file, Note::ShownWithout);
+            }
+            Ok(begun)
+        }
+        Err(ShelvedFault::Hidden) => {
+            let fault = CommandFault::Shelf(ShelfFault::BadRow);
+            Err(Refused::file(file, fault, FileCause::Hidden))
+        }
+        Err(fault) => Err(Refused::of(file, CommandFault::from(fault))),
+    }
+}
+
+/// The hub of a site whose operations stand in a store.
+pub fn hub_of<'r, 'a, R: Wait, S: Store>(
     host: &HostRuntime,
     rt: &'r R,
-    file: &str,
+    serving: &Serving<'a>,
     store: &mut S,
-    passes: usize,
-) -> Result<Opened<&'r R>, CommandFault>
-    requires passes { (1 ≤ passes) × (passes ≤ 64) }
-    ensures site { S.is_clean store.new → IfOk result (λ opened.
-        IsOpenedOn (S.lists store.new) [] opened.opening) }
+) -> Result<Begun<&'r R>, Refused<'a>>
+    requires places { HasPlaces serving.now }
+    ensures site { S.is_clean store.new → IfOk result (λ begun.
+        IsOpenedOn (S.shows store.new) begun.unreadable.items [] begun.opened.opening) }
 {
-    let progress = Progress::of(host);
-    progress.begins(file);
-    let opened = hub_on(host.alloc(), rt, store, SITE, passes, &progress)?;
-    Ok(opened)
+    let starting = Starting::begins(host, serving.file);
+    let opened = hub_on(host.alloc(), rt, store, asked_by(serving), &starting);
+    begun(host, serving, opened)
 }
 
 /// The same of a log, of which some contents are told.
-pub fn hub_of_log<'r, R: Wait + Threads + Sync, H: Disk + Drop, B: Disk>(
+pub fn hub_of_log<'r, 'a, R: Wait + Threads + Sync, H: Disk + Drop, B: Disk>(
     host: &HostRuntime,
     rt: &'r R,
-    file: &str,
+    serving: &Serving<'a>,
     log: &mut KeptLog<H, B>,
-    passes: usize,
     told: &[RecordedContent],
-) -> Result<Opened<&'r R>, CommandFault>
-    requires passes { (1 ≤ passes) × (passes ≤ 64) }
-    ensures site { IsUp H.Disk B.Disk (log_of log.new) → IfOk result (λ opened.
-        IsOpenedOn (listed_in B.Disk (log_of log.new)) told.now opened.opening) }
+) -> Result<Begun<&'r R>, Refused<'a>>
+    requires places { HasPlaces serving.now }
+    ensures site { IsUp H.Disk B.Disk (log_of log.new) → IfOk result (λ begun.
+        IsOpenedOn (shown_in B.Disk (log_of log.new)) begun.unreadable.items told.now
+        begun.opened.opening) }
 {
-    let starting = Starting::of(host, file);
-    starting.begins();
-    let opened = hub_on_log(host.alloc(), rt, rt, log, SITE, passes, told, &starting)?;
-    Ok(opened)
+    let starting = Starting::begins(host, serving.file);
+    let asked = asked_by(serving);
+    let opened = hub_on_log(host.alloc(), rt, rt, log, told, asked, &starting);
+    begun(host, serving, opened)
 }
 
 /// The fault of what was served, and else of the closing.

@@ -12,6 +12,7 @@ mod folder;
 mod gauges;
 mod hub;
 mod listening;
+mod log_tail;
 mod moving;
 mod output;
 mod progress;
@@ -24,7 +25,7 @@ mod viewing;
 
 use crate::answering::{Answered, answer_wanted};
 use crate::output::{ending_of, status_of_refusal};
-use crate::refused::Refused;
+use crate::refused::{Done, Refused};
 use anyhow::Result;
 use command_line::{is_want_of_memory, read_words};
 use log::Log;
@@ -46,13 +47,20 @@ fn told_refused(rt: &HostRuntime, refused: Refused<'_>) -> Result<u8> {
     Ok(ending.status)
 }
 
+/// Prints an answer, and behind it the lines of a fault. It says the status.
+fn told_done(rt: &HostRuntime, done: Done<'_>) -> Result<u8> {
+    let Done { text, behind } = done;
+    io::writer(rt).write_all(text.as_slice())?;
+    match behind {
+        None => Ok(ending_of(Ok(())).status),
+        Some(refused) => told_refused(rt, refused),
+    }
+}
+
 /// Prints an answer, or the lines of its fault. It says the status.
 fn told(rt: &HostRuntime, answered: Answered<'_>) -> Result<u8> {
     match answered {
-        Ok(text) => {
-            io::writer(rt).write_all(text.as_slice())?;
-            Ok(ending_of(Ok(())).status)
-        }
+        Ok(done) => told_done(rt, done),
         Err(refused) => told_refused(rt, refused),
     }
 }

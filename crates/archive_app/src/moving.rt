@@ -2,12 +2,12 @@
 
 ghost use Rattle.std.specs.Prelude.{IfOk, OnErr};
 ghost use Rattle.shelved_site.specs.Moving.{AreMoved, HasSome};
+ghost use Rattle.shelved_site.specs.Readable.{Shown};
 
 use crate::file::{OnStore, on_file};
-use crate::folder::is_absent;
+use crate::folder::{Starting, is_absent};
 use crate::output::{CommandFault, FileCause, lines_of_move};
-use crate::progress::Progress;
-use crate::refused::{Refused, about};
+use crate::refused::{Done, Refused, about, done_without};
 use crate::viewing::view_file;
 use command_words::Moving;
 use op_shelf::{ShelfFault, StoreCause};
@@ -21,9 +21,9 @@ fn bring<F: Store, T: Store, H: Following>(
     hearing: &H,
 ) -> Result<Moved, MoveFault>
     ensures moved { F.is_clean from.new → T.is_up to.new → IfOk result
-        (AreMoved (F.lists from.old) (T.holds to.old) (T.holds to.new) (T.lasts to.new)) }
+        (AreMoved (F.shows from.old) (T.holds to.old) (T.holds to.new) (T.lasts to.new)) }
     ensures part { F.is_clean from.new → T.is_up to.new → OnErr result
-        (HasSome (F.lists from.old) (T.holds to.old) (T.holds to.new)) }
+        (HasSome (Shown (F.shows from.old)) (T.holds to.old) (T.holds to.new)) }
     ensures read { F.is_clean from.new → F.spares from.old from.new }
 {
     move_all(from, to, hearing)
@@ -46,9 +46,8 @@ impl<'h, 'a, F: Store + Drop> OnStore for Filling<'h, 'a, F> {
             moving,
             mut from,
         } = self;
-        let progress = Progress::of(rt);
-        progress.begins(moving.from);
-        match bring(&mut from, &mut to, &progress) {
+        let starting = Starting::begins(rt, moving.from);
+        match bring(&mut from, &mut to, &starting) {
             Ok(moved) => Ok(moved),
             Err(MoveFault::From(fault)) => Err(Refused::of(
                 moving.from,
@@ -61,16 +60,16 @@ impl<'h, 'a, F: Store + Drop> OnStore for Filling<'h, 'a, F> {
 
 /// A move of which neither archive is open.
 #[derive(Drop)]
-struct Starting<'h, 'a> {
+struct Opening<'h, 'a> {
     rt: &'h HostRuntime,
     moving: Moving<'a>,
 }
 
-impl<'h, 'a> OnStore for Starting<'h, 'a> {
+impl<'h, 'a> OnStore for Opening<'h, 'a> {
     type Told = Result<Moved, Refused<'a>>;
 
     fn on<S: Store + Drop + Send>(self, from: S) -> Result<Moved, Refused<'a>> {
-        let Starting { rt, moving } = self;
+        let Opening { rt, moving } = self;
         on_file(rt, moving.to, Filling { rt, moving, from })?
     }
 }
@@ -79,12 +78,14 @@ impl<'h, 'a> OnStore for Starting<'h, 'a> {
 /// how many there were and how many of them were new. The first is only read, but that a table of
 /// older programs becomes that of today, and is refused where it is not there. Refusals come in
 /// this order: the first, the second; behind them that of a read or of a put, where the second has
-/// what it had and some of the first.
-pub fn move_operations<'a>(rt: &HostRuntime, moving: Moving<'a>) -> Result<Vec<u8>, Refused<'a>> {
+/// what it had and some of the first. What can't be read of the first is said and left out, and it
+/// then ends with a fault.
+pub fn move_operations<'a>(rt: &HostRuntime, moving: Moving<'a>) -> Result<Done<'a>, Refused<'a>> {
     if is_absent(rt, moving.from) {
         let fault = CommandFault::Shelf(ShelfFault::Store(StoreCause::Other));
         return Err(Refused::file(moving.from, fault, FileCause::Absent));
     }
-    let moved = view_file(rt, moving.from, Starting { rt, moving })??;
-    about(moving.to, lines_of_move(rt.alloc(), moved))
+    let moved = view_file(rt, moving.from, Opening { rt, moving })??;
+    let lines = about(moving.to, lines_of_move(rt.alloc(), moved))?;
+    Ok(done_without(rt, moving.from, lines, moved.unread))
 }

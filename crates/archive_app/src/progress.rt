@@ -6,7 +6,6 @@ ghost use Rattle.std.specs.Prelude.{◌≡◌};
 
 use devices::{DeviceFault, Sink, Source};
 use op_shelf::Testing;
-use shelved_site::{Following, Hearing};
 use std::io::IsTerminal;
 use std::rt::HostRuntime;
 
@@ -45,27 +44,28 @@ impl<'a> Progress<'a> {
     }
 }
 
-impl Hearing for Progress<'_> {
-    fn has_read(&self, operations: usize) {
+impl Progress<'_> {
+    /// So many operations were read.
+    pub fn has_read(self, operations: usize) {
         if let Some(rt) = self.reader {
             let _ = eprintln!(rt; "taking {operations} operations");
         }
     }
-
-    fn has_other_records(&self) {}
 }
 
 /// How many operations are moved between two lines.
 const MOVED: usize = 1_024;
 
-impl Following for Progress<'_> {
-    fn has_read(&self, operations: usize) {
+impl Progress<'_> {
+    /// So many operations are put next.
+    pub fn moves(self, operations: usize) {
         if let Some(rt) = self.reader {
             let _ = eprintln!(rt; "moving {operations} operations");
         }
     }
 
-    fn has_put(&self, operations: usize) {
+    /// So many of them were put.
+    pub fn has_put(self, operations: usize) {
         if let Some(rt) = self.reader {
             if operations % MOVED == 0 {
                 let _ = eprintln!(rt; "moved {operations} operations");

@@ -1,8 +1,13 @@
 //! Why a command is refused, and what of.
 
-ghost use Rattle.std.specs.Prelude.{◌≡◌};
+ghost use Rattle.std.specs.Prelude.{◌≡◌, ◌↔◌, IsNone};
 
-use crate::output::{Cause, CommandFault, FileCause, NetCause, Note, words_of, words_of_note};
+use crate::output::{
+    Cause, CommandFault, FileCause, NetCause, Note, place_of, words_of, words_of_note,
+    words_of_unread,
+};
+use op_shelf::ShelfFault;
+use shelved_site::Unreadable;
 use std::rt::HostRuntime;
 
 /// The fault of a command, the file or the address that it is about, and why it came.
@@ -43,9 +48,17 @@ impl<'a> Refused<'a> {
         }
     }
 
-    /// The line in words. One that standard error refuses is dropped.
+    /// The line in words, and the place in a file where that is known. One that standard error
+    /// refuses is dropped.
     pub fn tell(self, rt: &HostRuntime) {
-        say(rt, self.about, words_of(self.cause));
+        let words = words_of(self.cause);
+        match place_of(self.cause) {
+            None => say(rt, self.about, words),
+            Some(at) => {
+                let about = self.about;
+                let _ = eprintln!(rt; "archive: {about}: {words} {at}");
+            }
+        }
     }
 }
 
@@ -66,6 +79,52 @@ fn say(rt: &HostRuntime, about: &str, words: &str) {
         let _ = eprintln!(rt; "archive: {words}");
     } else {
         let _ = eprintln!(rt; "archive: {about}: {words}");
+    }
+}
+
+/// What is said of an operation that can't be read where memory for its words is refused.
+const UNTOLD: &str = "can't be read: an operation";
+
+/// An operation of a file that can't be read.
+pub fn note_unread(rt: &HostRuntime, file: &str, unread: &Unreadable) {
+    match words_of_unread(rt.alloc(), unread) {
+        Ok(words) => say(rt, file, str::from_utf8(words.as_slice()).unwrap_or(UNTOLD)),
+        Err(_refused) => say(rt, file, UNTOLD),
+    }
+}
+
+/// How many operations of a file can't be read, where some can't.
+pub fn note_count(rt: &HostRuntime, file: &str, count: u64) {
+    if count > 0 {
+        let _ = eprintln!(rt; "archive: {file}: can't be read: {count} in all");
+    }
+}
+
+/// What a command that was done prints on standard output, and the fault with which it ends behind
+/// that.
+#[derive(Drop)]
+pub struct Done<'a> {
+    pub text: Vec<u8>,
+    pub behind: Option<Refused<'a>>,
+}
+
+/// The fault with which a command ends that was done without so many operations of a file.
+pub fn ended_without<'a>(file: &'a str, unread: u64) -> Option<Refused<'a>>
+    ensures { IsNone result ↔ (unread ≡ 0) }
+{
+    if unread == 0 {
+        return None;
+    }
+    let fault = CommandFault::Shelf(ShelfFault::BadRow);
+    Some(Refused::file(file, fault, FileCause::Unreadable))
+}
+
+/// A command that was done without so many operations of a file, which is said.
+pub fn done_without<'a>(rt: &HostRuntime, file: &'a str, text: Vec<u8>, unread: u64) -> Done<'a> {
+    note_count(rt, file, unread);
+    Done {
+        text,
+        behind: ended_without(file, unread),
     }
 }
 

@@ -1,9 +1,9 @@
 //! `archive report`: counts the operations in a file or a folder, or tells a table of its site.
 
 use crate::file::OnStore;
-use crate::folder::{is_absent, is_folder, site_to_view};
+use crate::folder::{Starting, is_absent, is_folder, site_to_view};
 use crate::output::{CommandFault, Note, lines_of};
-use crate::refused::{Refused, about, note};
+use crate::refused::{Done, Refused, about, done_without, note};
 use crate::viewing::view_file;
 use command_words::Reporting;
 use shelved_site::{Report, ShelvedFault, Store, report_of, report_on, report_with, table_on};
@@ -19,17 +19,24 @@ fn report_of_none(alloc: Global) -> Result<Report, CommandFault> {
     Ok(report)
 }
 
+/// What is told of an archive, and of how many of its operations it is told without.
+type Partly<T> = (T, u64);
+
 /// The report of a store.
 #[derive(Drop)]
-struct Counting {
+struct Counting<'h> {
     alloc: Global,
+    starting: Starting<'h>,
 }
 
-impl OnStore for Counting {
-    type Told = Result<Report, ShelvedFault>;
+impl<'h> OnStore for Counting<'h> {
+    type Told = Result<Partly<Report>, ShelvedFault>;
 
-    fn on<S: Store + Drop + Send>(self, mut store: S) -> Result<Report, ShelvedFault> {
-        report_on(self.alloc, &mut store)
+    fn on<S: Store + Drop + Send>(self, mut store: S) -> Result<Partly<Report>, ShelvedFault> {
+        match report_on(self.alloc, &mut store, &self.starting) {
+            Ok((report, unreadable)) => Ok((report, unreadable.len() as u64)),
+            Err(fault) => Err(fault),
+        }
     }
 }
 
@@ -38,20 +45,25 @@ fn report_in_folder<'a, T: Threads + Sync>(
     rt: &HostRuntime,
     threads: &T,
     folder: &'a str,
-) -> Result<Report, Refused<'a>> {
-    let (site, mut log) = site_to_view(rt, threads, folder)?;
-    about(folder, report_with(rt.alloc(), &mut log, &site))
+) -> Result<Partly<Report>, Refused<'a>> {
+    let (sited, mut log) = site_to_view(rt, threads, folder)?;
+    let report = about(folder, report_with(rt.alloc(), &mut log, &sited.site))?;
+    Ok((report, sited.unreadable.len() as u64))
 }
 
 fn report_in<'a, T: Threads + Sync>(
     rt: &HostRuntime,
     threads: &T,
     file: &'a str,
-) -> Result<Report, Refused<'a>> {
+) -> Result<Partly<Report>, Refused<'a>> {
     if is_folder(rt, file) {
         return report_in_folder(rt, threads, file);
     }
-    about(file, view_file(rt, file, Counting { alloc: rt.alloc() })?)
+    let counting = Counting {
+        alloc: rt.alloc(),
+        starting: Starting::begins(rt, file),
+    };
+    about(file, view_file(rt, file, counting)?)
 }
 
 /// The counts of the operations in a file.
@@ -61,29 +73,33 @@ fn counts<'a, T: Threads + Sync>(
     file: &'a str,
     is_absent: bool,
     is_fingerprinted: bool,
-) -> Result<Vec<u8>, Refused<'a>> {
+) -> Result<Partly<Vec<u8>>, Refused<'a>> {
     let alloc = rt.alloc();
-    let report = if is_absent {
-        about(file, report_of_none(alloc))?
+    let (report, unread) = if is_absent {
+        (about(file, report_of_none(alloc))?, 0)
     } else {
         report_in(rt, threads, file)?
     };
     let lines = lines_of(alloc, &report, is_folder(rt, file), is_fingerprinted);
-    about(file, lines)
+    Ok((about(file, lines)?, unread))
 }
 
 /// A table of a store.
 #[derive(Drop)]
-struct Telling {
+struct Telling<'h> {
     alloc: Global,
     table: Table,
+    starting: Starting<'h>,
 }
 
-impl OnStore for Telling {
-    type Told = Result<Vec<Row>, ShelvedFault>;
+impl<'h> OnStore for Telling<'h> {
+    type Told = Result<Partly<Vec<Row>>, ShelvedFault>;
 
-    fn on<S: Store + Drop + Send>(self, mut store: S) -> Result<Vec<Row>, ShelvedFault> {
-        table_on(self.alloc, &mut store, self.table)
+    fn on<S: Store + Drop + Send>(self, mut store: S) -> Result<Partly<Vec<Row>>, ShelvedFault> {
+        match table_on(self.alloc, &mut store, self.table, &self.starting) {
+            Ok((rows, unreadable)) => Ok((rows, unreadable.len() as u64)),
+            Err(fault) => Err(fault),
+        }
     }
 }
 
@@ -93,9 +109,10 @@ fn rows_in_folder<'a, T: Threads + Sync>(
     threads: &T,
     folder: &'a str,
     table: Table,
-) -> Result<Vec<Row>, Refused<'a>> {
-    let (site, _log) = site_to_view(rt, threads, folder)?;
-    about(folder, rows_of_table(rt.alloc(), &site, table))
+) -> Result<Partly<Vec<Row>>, Refused<'a>> {
+    let (sited, _log) = site_to_view(rt, threads, folder)?;
+    let rows = about(folder, rows_of_table(rt.alloc(), &sited.site, table))?;
+    Ok((rows, sited.unreadable.len() as u64))
 }
 
 fn rows_in<'a, T: Threads + Sync>(
@@ -104,15 +121,20 @@ fn rows_in<'a, T: Threads + Sync>(
     file: &'a str,
     is_absent: bool,
     table: Table,
-) -> Result<Vec<Row>, Refused<'a>> {
+) -> Result<Partly<Vec<Row>>, Refused<'a>> {
     let alloc = rt.alloc();
     if is_absent {
-        return Ok(Vec::new(alloc));
+        return Ok((Vec::new(alloc), 0));
     }
     if is_folder(rt, file) {
         return rows_in_folder(rt, threads, file, table);
     }
-    about(file, view_file(rt, file, Telling { alloc, table })?)
+    let telling = Telling {
+        alloc,
+        table,
+        starting: Starting::begins(rt, file),
+    };
+    about(file, view_file(rt, file, telling)?)
 }
 
 /// The rows of a table as text.
@@ -136,21 +158,20 @@ fn told<'a, T: Threads + Sync>(
     is_absent: bool,
     table: Table,
     is_separated: bool,
-) -> Result<Vec<u8>, Refused<'a>> {
-    let rows = rows_in(rt, threads, file, is_absent, table)?;
-    about(
-        file,
-        text_of(rt.alloc(), table, rows.as_slice(), is_separated),
-    )
+) -> Result<Partly<Vec<u8>>, Refused<'a>> {
+    let (rows, unread) = rows_in(rt, threads, file, is_absent, table)?;
+    let text = text_of(rt.alloc(), table, rows.as_slice(), is_separated);
+    Ok((about(file, text)?, unread))
 }
 
 /// The report of the operations in a file, of which nothing is changed, but that a table of older
 /// programs becomes that of today. One that is not there has none, which is said, and is not made.
+/// It is made without those that can't be read, and then ends with a fault.
 pub fn report<'a, T: Threads + Sync>(
     rt: &HostRuntime,
     threads: &T,
     reporting: Reporting<'a>,
-) -> Result<Vec<u8>, Refused<'a>> {
+) -> Result<Done<'a>, Refused<'a>> {
     let Reporting {
         file,
         table,
@@ -161,8 +182,9 @@ pub fn report<'a, T: Threads + Sync>(
     if is_absent {
         note(rt, file, Note::Absent);
     }
-    match table {
-        None => counts(rt, threads, file, is_absent, fingerprint),
-        Some(table) => told(rt, threads, file, is_absent, table, separated),
-    }
+    let (text, unread) = match table {
+        None => counts(rt, threads, file, is_absent, fingerprint)?,
+        Some(table) => told(rt, threads, file, is_absent, table, separated)?,
+    };
+    Ok(done_without(rt, file, text, unread))
 }

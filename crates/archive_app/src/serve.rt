@@ -6,7 +6,7 @@ ghost use Rattle.command_words.specs.Words.{HasPlaces};
 ghost use Rattle.shelved_site.specs.Told.{IsOpenedOn};
 ghost use Rattle.archive_app.specs.Serves.{IsSeconds, IsWait};
 
-use crate::duties::{duties_of, passes_for, workers_of};
+use crate::duties::{duties_of, workers_of};
 use crate::ending::ended_with_input;
 use crate::file::{adopted, refused, see_kind};
 use crate::folder::{is_folder, log_in, records_in};
@@ -22,7 +22,7 @@ use command_words::Serving;
 use log::Log;
 use record_log::Told;
 use records::RecordedContent;
-use shelved_site::{KeptLog, Store};
+use shelved_site::{Begun, KeptLog, Store, Unreadable};
 use site_hub::{HubFault, HubName, Opened};
 use sqlite::{Alter, Connection, Wary};
 use std::alloc::{AllocError, Global};
@@ -81,6 +81,13 @@ fn bytes_of(mebibytes: u32) -> usize
     mebibytes as usize * 1_048_576
 }
 
+/// What is known of a store when it is served: the contents that are told, and what can't be read.
+#[derive(Clone, Copy)]
+struct Known<'a> {
+    told: &'a [RecordedContent],
+    unreadable: &'a [Unreadable],
+}
+
 /// Serves in threads until each worker has accepted what it may and each exchange was served, and
 /// closes the hub.
 fn serve_hub<
@@ -91,7 +98,7 @@ fn serve_hub<
     host: &HostRuntime,
     rt: &R,
     store: &mut S,
-    _told: &[RecordedContent],
+    _known: Known<'_>,
     opened: Opened<&R>,
     listening: &Listening,
     serving: &Serving<'_>,
@@ -102,7 +109,7 @@ fn serve_hub<
     requires opening { opened.opening ≡ H.opening }
     requires passes { opened.passes ≡ H.passes }
     requires site { S.is_clean store.old
-        → IsOpenedOn (S.lists store.old) _told.now H.opening }
+        → IsOpenedOn (S.shows store.old) _known.unreadable.now _known.told.now H.opening }
 {
     let alloc = host.alloc();
     let titles = serving.titles(alloc)?;
@@ -171,12 +178,12 @@ fn serve_site<
     host: &HostRuntime,
     rt: &R,
     store: &mut S,
-    told: &[RecordedContent],
+    known: Known<'_>,
     site: (Opened<&R>, Listening),
     serving: &Serving<'_>,
 ) -> Result<Count, CommandFault>
     requires site { S.is_clean store.old
-        → IsOpenedOn (S.lists store.old) told.now site.0.opening }
+        → IsOpenedOn (S.shows store.old) known.unreadable.now known.told.now site.0.opening }
 {
     let (opened, listening) = site;
     let ended = ending_of(host, rt, &listening, serving)?;
@@ -186,7 +193,7 @@ fn serve_site<
         recent: bytes_of(serving.cache),
         is_verbose: serving.is_verbose,
     };
-    serve_hub::<Brand, R, S>(host, rt, store, told, opened, &listening, serving, manner)
+    serve_hub::<Brand, R, S>(host, rt, store, known, opened, &listening, serving, manner)
 }
 
 /// What is told of where serving did not begin: the address, where its listener was refused, and
@@ -215,23 +222,27 @@ fn serve_store<
     serving: &Serving<'a>,
     store: &mut S,
     told: &[RecordedContent],
-    opened: Result<Opened<&R>, CommandFault>,
+    begun: Result<Begun<&R>, Refused<'a>>,
     listening: Option<Listening>,
 ) -> Printed<Result<Count, Refused<'a>>>
     requires places { HasPlaces serving.now }
-    requires site { S.is_clean store.old
-        → IfOk opened (λ opened. IsOpenedOn (S.lists store.old) told.now opened.opening) }
+    requires site { S.is_clean store.old → IfOk begun (λ begun. IsOpenedOn
+        (S.shows store.old) begun.unreadable.items told.now begun.opened.opening) }
 {
-    let opened = match opened {
-        Ok(opened) => opened,
-        Err(fault) => return Ok(Err(Refused::of(serving.file, fault))),
+    let Begun { opened, unreadable } = match begun {
+        Ok(begun) => begun,
+        Err(refused) => return Ok(Err(refused)),
+    };
+    let known = Known {
+        told,
+        unreadable: unreadable.as_slice(),
     };
     let listening = match listening_of(host, rt, serving, listening) {
         Ok(listening) => listening,
         Err(fault) => return Ok(Err(fault)),
     };
     say_where(rt, &listening, serving)?;
-    let served = serve_site(host, rt, store, told, (opened, listening), serving);
+    let served = serve_site(host, rt, store, known, (opened, listening), serving);
     Ok(about(begun_at(serving, &served), served))
 }
 
@@ -257,8 +268,8 @@ fn serve_database<
 {
     match adopted(host, serving.file, database) {
         Ok(mut shelf) => {
-            let opened = hub_of(host, rt, serving.file, &mut shelf, passes_for(serving));
-            serve_store(host, rt, serving, &mut shelf, &[], opened, listening)
+            let begun = hub_of(host, rt, serving, &mut shelf);
+            serve_store(host, rt, serving, &mut shelf, &[], begun, listening)
         }
         Err(fault) => Ok(Err(fault)),
     }
@@ -318,8 +329,8 @@ fn serve_log<
             } = records_in(host, serving.file);
             let told = contents.as_slice();
             let mut kept = KeptLog::beside(host.alloc(), log, records);
-            let opened = hub_of_log(host, rt, serving.file, &mut kept, passes_for(serving), told);
-            serve_store(host, rt, serving, &mut kept, told, opened, listening)
+            let begun = hub_of_log(host, rt, serving, &mut kept, told);
+            serve_store(host, rt, serving, &mut kept, told, begun, listening)
         }
         Err(fault) => Ok(Err(fault)),
     }

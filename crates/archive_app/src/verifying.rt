@@ -3,7 +3,8 @@
 ghost use Rattle.std.specs.Prelude.{IfOk, OnErr, OnOk};
 
 use crate::file::OnStore;
-use crate::folder::is_absent;
+use crate::folder::{is_absent, is_folder};
+use crate::log_tail::{Tail, refused_for_frames, tail_beside};
 use crate::output::{CommandFault, FileCause, ended_of_verify, lines_of_verify};
 use crate::progress::Progress;
 use crate::refused::{Refused, about};
@@ -19,7 +20,7 @@ use std::rt::HostRuntime;
 /// Tests all operations of a store, and tells how far it is.
 fn tested<S: Store, T: Testing>(store: &mut S, hearing: &T) -> Result<Verified, ShelfFault>
     ensures verified { S.is_clean store.new → IfOk result
-        (λ told. S.verifies store.old told.operations told.damaged.items) }
+        (λ told. S.verifies store.old store.new told.operations told.damaged.items) }
     ensures same { S.is_clean store.new → OnOk result (S.is_same store.old store.new) }
     ensures read { S.is_clean store.new → OnErr result (S.spares store.old store.new) }
 {
@@ -56,8 +57,8 @@ fn verified<'a>(rt: &HostRuntime, file: &'a str) -> Result<Verified, Refused<'a>
 }
 
 /// Tests each operation in a file, of which nothing is changed, but that a table of older programs
-/// becomes that of today, and prints which are not those of their digests. Where one is not it ends
-/// with a fault behind that.
+/// becomes that of today, and prints which are not those of their digests. Where one is not, or the
+/// log beside the file is damaged, it ends with a fault behind that.
 pub fn verify<'a>(rt: &HostRuntime, verifying: Verifying<'a>) -> Printed<Result<(), Refused<'a>>> {
     let file = verifying.file;
     let verified = match verified(rt, file) {
@@ -67,6 +68,9 @@ pub fn verify<'a>(rt: &HostRuntime, verifying: Verifying<'a>) -> Printed<Result<
     match about(file, lines_of_verify(rt.alloc(), &verified)) {
         Ok(lines) => io::writer(rt).write_all(lines.as_slice())?,
         Err(refused) => return Ok(Err(refused)),
+    }
+    if !is_folder(rt, file) && tail_beside(rt, file) == Tail::Lost {
+        return Ok(Err(refused_for_frames(file)));
     }
     Ok(about(file, ended_of_verify(&verified)))
 }

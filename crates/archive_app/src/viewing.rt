@@ -6,8 +6,9 @@ ghost use Rattle.sqlite_disk.specs.Memory.{memory_is_usable};
 
 use crate::file::{OnStore, beside, is_new, note_log, on_database, on_shelf, refused};
 use crate::folder::{is_folder, log_to_view, on_log};
-use crate::output::{CommandFault, FileCause, file_cause_of, is_other};
-use crate::refused::Refused;
+use crate::log_tail::{Tail, tail_beside};
+use crate::output::{CommandFault, FileCause, Note, file_cause_of, is_other};
+use crate::refused::{Refused, note};
 use op_shelf::{ShelfFault, StoreCause};
 use os::RangeLock;
 use sqlite::{Connection, Files, Options};
@@ -125,6 +126,14 @@ fn copied(rt: &HostRuntime, file: &str) -> io::Result<Files<InMemory>>
     })
 }
 
+/// The bytes of the log of a file, while no program writes it.
+pub fn log_at_rest(rt: &HostRuntime, file: &str) -> io::Result<Vec<u8>> {
+    let opened = File::open(rt, file)?;
+    lock(&opened, LOCKS, LOCKED)?;
+    let _held = log_locked(rt, file)?;
+    log_of(rt, file)
+}
+
 /// Why a file is not read.
 fn unread<'a>(file: &'a str, kind: ErrorKind) -> Refused<'a> {
     let fault = CommandFault::Shelf(ShelfFault::Store(StoreCause::Other));
@@ -196,8 +205,8 @@ fn has_both(rt: &HostRuntime, file: &str) -> bool {
 
 /// Does a command's work on the operations in a file or a folder, of which nothing is changed, but
 /// that a table of older programs becomes that of today. Where opening a file would make another,
-/// or there is no right to write it, the work is done on a copy in memory. A folder is opened as it
-/// stands.
+/// or lose what its log has, or there is no right to write it, the work is done on a copy in memory.
+/// A folder is opened as it stands.
 pub fn view_file<'a, W: OnStore + Drop>(
     rt: &HostRuntime,
     file: &'a str,
@@ -205,6 +214,10 @@ pub fn view_file<'a, W: OnStore + Drop>(
 ) -> Result<W::Told, Refused<'a>> {
     if is_folder(rt, file) {
         return Ok(on_log(log_to_view(rt, file)?, work));
+    }
+    if tail_beside(rt, file) == Tail::Lost {
+        note(rt, file, Note::LostFrames);
+        return on_copy(rt, file, work);
     }
     if has_both(rt, file) {
         return on_shelf(rt, file, work);

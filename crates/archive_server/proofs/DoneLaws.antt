@@ -9,6 +9,7 @@ use Rattle.association_run.specs.declared.fault.RunFault.{RunFault}
 use Rattle.association_run.specs.Output.{Output, FrontOfOutput}
 use Rattle.association_run.specs.Parts.{Sides}
 use Rattle.exchange.specs.declared.fault.ExchangeFault.{ExchangeFault}
+use Rattle.exchange.specs.declared.fault.HolderFault.{HolderFault}
 use Rattle.exchange.specs.declared.role.Role.{Role}
 use Rattle.exchange.specs.declared.role.Ended.{Ended}
 use Rattle.exchange.specs.Run.{Ends, Exchanged, EndsEarly}
@@ -23,8 +24,10 @@ attends_as opening titles r0 r1 from to (Ok end) ok err = ok
 attends_as opening titles r0 r1 from to (Err fault) ok err = err
 
 -- an exchange that ended, or was broken off
-pub converses_as : (opening : Map) (role : Role) (from to : Ends Seat) (ended : Result Ended ExchangeFault)
-    → IfOk ended (Exchanged (seen_by opening) (λ _. ⊥) role from to)
-    → IfErr ended (EndsEarly (seen_by opening) (λ _. ⊥) role from to) → Converses opening role from to ended
-converses_as opening role from to (Ok ended) ok err = ok
-converses_as opening role from to (Err fault) ok err = err
+pub converses_as : (opening : Map) (refuses : Seat → Seat → List ℕ → HolderFault → Type 0) (role : Role)
+    (from to : Ends Seat) (ended : Result Ended ExchangeFault)
+    → IfOk ended (Exchanged (seen_by opening) (λ _. ⊥) refuses role from to)
+    → IfErr ended (EndsEarly (seen_by opening) (λ _. ⊥) refuses role from to)
+    → Converses opening refuses role from to ended
+converses_as opening refuses role from to (Ok ended) ok err = ok
+converses_as opening refuses role from to (Err fault) ok err = err

@@ -11,6 +11,7 @@ use Rattle.association_run.specs.declared.fault.RunFault.{RunFault}
 use Rattle.association_run.specs.Output.{Output, FrontOfOutput}
 use Rattle.association_run.specs.Parts.{Sides}
 use Rattle.exchange.specs.declared.fault.ExchangeFault.{ExchangeFault}
+use Rattle.exchange.specs.declared.fault.HolderFault.{HolderFault}
 use Rattle.exchange.specs.declared.role.Role.{Role}
 use Rattle.exchange.specs.declared.role.Ended.{Ended}
 use Rattle.exchange.specs.Run.{Ends, Exchanged, EndsEarly}
@@ -52,10 +53,11 @@ abbrev pub Attends : Map → List (Title View) → Option (List ℕ) → Option 
 Attends opening titles r0 r1 from to (Ok end) = Output (ops_seen opening) own_of titles r0 r1 from to end
 Attends opening titles r0 r1 from to (Err fault) = FrontOfOutput (ops_seen opening) own_of titles r0 r1 from to
 
--- A whole exchange over the set that its pass sees, or one that was broken off.
-abbrev pub Converses : Map → Role → Ends Seat → Ends Seat → Result Ended ExchangeFault → Type 0
-Converses opening role from to (Ok ended) = Exchanged (seen_by opening) (λ _. ⊥) role from to ended
-Converses opening role from to (Err fault) = EndsEarly (seen_by opening) (λ _. ⊥) role from to fault
+-- A whole exchange over the set that its pass sees, which loads may be refused so, or one that was broken off.
+abbrev pub Converses : Map → (Seat → Seat → List ℕ → HolderFault → Type 0) → Role → Ends Seat → Ends Seat
+    → Result Ended ExchangeFault → Type 0
+Converses opening refuses role from to (Ok ended) = Exchanged (seen_by opening) (λ _. ⊥) refuses role from to ended
+Converses opening refuses role from to (Err fault) = EndsEarly (seen_by opening) (λ _. ⊥) refuses role from to fault
 
 -- the fault of an association, and of an exchange
 abbrev pub fault_of_run : Result End RunFault → Option ServeFault

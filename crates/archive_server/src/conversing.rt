@@ -1,7 +1,8 @@
 //! One exchange over any reader and writer, with a pass of a running site.
 
-ghost use Rattle.std.specs.Prelude.{◌≡◌};
+ghost use Rattle.std.specs.Prelude.{◌≡◌, Some};
 ghost use Rattle.exchange.specs.Run.{ends};
+ghost use Rattle.hub_exchange.specs.Fault.{RefusesLoadAtHub};
 ghost use Rattle.hub_exchange.specs.Putting.{IsLent};
 ghost use Rattle.archive_server.specs.Done.{Converses};
 ghost use Rattle.archive_server.specs.Serving.{HasGoneOn};
@@ -45,7 +46,8 @@ fn converse<
     requires entry { clerk.pass ≡ E.seat }
     requires lent { IsLent E.lent shelf.now }
     ensures onward { HasGoneOn clerk result.clerk }
-    ensures converses { Converses H.opening role
+    ensures converses { Converses H.opening
+        (RefusesLoadAtHub (IsLent E.lent) P.refuses_load P.has_loaded H.opening) role
         (ends clerk.pass (I.remaining reader.old) (O.contents writer.old) (I.failures reader.old)
         (O.failures writer.old))
         (ends result.clerk.pass (I.remaining reader.new) (O.contents writer.new)
@@ -87,7 +89,8 @@ pub fn serve_exchange<
     clerk: Clerk<H, N>,
 ) -> Conversed<H, N>
     ensures onward { HasGoneOn clerk result.clerk }
-    ensures converses { Converses H.opening role
+    ensures converses { Converses H.opening
+        (RefusesLoadAtHub (IsLent (Some shelf.now)) P.refuses_load P.has_loaded H.opening) role
         (ends clerk.pass (I.remaining reader.old) (O.contents writer.old) (I.failures reader.old)
         (O.failures writer.old))
         (ends result.clerk.pass (I.remaining reader.new) (O.contents writer.new)

@@ -9,6 +9,8 @@ ghost use Rattle.site_desk.specs.Serving.{desk_config};
 ghost use Rattle.association_run.specs.Parts.{sides};
 ghost use Rattle.exchange.specs.Run.{ends};
 ghost use Rattle.exchange.specs.declared.role.Role.TheVariants.{Callee};
+ghost use Rattle.hub_exchange.specs.Fault.{RefusesLoadAtHub};
+ghost use Rattle.hub_exchange.specs.Putting.{IsLent};
 ghost use Rattle.command_words.specs.Networks.{may_come};
 ghost use Rattle.archive_server.specs.Correcting.{at_desk, AreAnswered};
 ghost use Rattle.archive_server.specs.Done.{Attends, Converses, HasOnlyLooked, fault_of_run, fault_of_exchange};
@@ -206,7 +208,8 @@ impl<H: HubName, N: LedgerName> Done<H, N> {
     ) -> (Done<H, N>, Result<Ended, ExchangeFault>)
         requires room { self.accepted + self.failed < 2 ^ 64 - 1 }
         ensures onward { HasGoneOn self.clerk result.0.clerk }
-        ensures converses { Converses H.opening Callee
+        ensures converses { Converses H.opening
+            (RefusesLoadAtHub (IsLent (Some shelf.now)) P.refuses_load P.has_loaded H.opening) Callee
             (ends self.clerk.pass (I.remaining reader.old) (O.contents writer.old)
             (I.failures reader.old) (O.failures writer.old))
             (ends result.0.clerk.pass (I.remaining reader.new) (O.contents writer.new)

@@ -2,7 +2,7 @@
 //! exchange, page and correction, for each peer that is not reached or turned away, and each store
 //! that is refused; always one for an accept that failed while nobody had ended the server, for the
 //! last round of exchanges, for an association that wanted memory, and for an exchange that the
-//! archive refused, or lacked memory for.
+//! archive refused, lacked memory for, or could not read all for that it was to give.
 //!
 //! What a peer sent is shown as printable ASCII, so that no peer makes a line of its own. A line
 //! that standard error refuses is dropped.
@@ -247,6 +247,19 @@ pub(crate) fn tell_association<S: Clock + Log>(
     );
 }
 
+/// How many operations that a peer asked for could not be read, where there are some.
+#[derive(Clone, Copy)]
+struct Unread(u64);
+
+impl Display for Unread {
+    fn fmt<W: fmt::Write>(&self, f: &mut Formatter<W>) -> fmt::Result {
+        match self.0 {
+            0 => Ok(()),
+            unread => write!(f, " unread {unread}"),
+        }
+    }
+}
+
 /// How an exchange ended.
 #[derive(Clone, Copy)]
 struct Outcome(Result<Ended, ExchangeFault>);
@@ -257,6 +270,7 @@ impl Display for Outcome {
             Ok(
                 Ended {
                     given,
+                    unread,
                     taken,
                     finished,
                     agreed,
@@ -264,10 +278,11 @@ impl Display for Outcome {
                 },
             ) => {
                 let finished = if finished { "yes" } else { "no" };
-                let agree = if agreed { "yes" } else { "no" };
+                let agree = if agreed && unread == 0 { "yes" } else { "no" };
+                let unread = Unread(unread);
                 write!(
                     f,
-                    "given {given} taken {taken} finished {finished} agree {agree}"
+                    "given {given} taken {taken} finished {finished} agree {agree}{unread}"
                 )
             }
             Err(fault) => {
@@ -278,12 +293,17 @@ impl Display for Outcome {
     }
 }
 
-/// Whether an exchange ended by what the archive itself lacked or refused.
+/// Whether an exchange ended by what the archive itself lacked or refused, or the archive could not
+/// read all that it was to give.
 fn is_own(ended: &Result<Ended, ExchangeFault>) -> bool {
-    matches!(ended, Err(ExchangeFault::Memory | ExchangeFault::Refused))
+    match ended {
+        Ok(ended) => ended.unread > 0,
+        Err(fault) => matches!(fault, ExchangeFault::Memory | ExchangeFault::Refused),
+    }
 }
 
-/// Tells an exchange that has ended, where lines are asked for, or where it ended by the archive.
+/// Tells an exchange that has ended, where lines are asked for, or where the archive refused it or
+/// could not read all that it was to give.
 pub(crate) fn tell_exchange<S: Clock + Log>(
     rt: &S,
     manner: Manner<'_>,

@@ -49,6 +49,7 @@ pub record ServesBy (rows : List Row) (serving : Serving) : Type 0 where
   pub cache : serving.cache ≡ unwrap_or (number_at rows (codes "cache")) 32
   pub idle : serving.idle ≡ idle_at rows
   pub ends_with_input : serving.ends_with_input ≡ flag_at rows (codes "until-end-of-input")
+  pub shows_without : serving.shows_without ≡ flag_at rows (codes "show-without")
   pub is_verbose : serving.is_verbose ≡ flag_at rows (codes "verbose")
 
 -- what a server has of the options that may be given again and again, in their order

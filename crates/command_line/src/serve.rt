@@ -237,6 +237,15 @@ pub(crate) const SERVE_ROWS: &[Row] = &[
         ..ENDING
     },
     Row {
+        name: "show-without",
+        line: "Starts where a rejection note may be unreadable",
+        whole: Some(
+            "Starts also where an operation that can't be read may be a rejection \
+            note:{n}images that it hides are then shown",
+        ),
+        ..ENDING
+    },
+    Row {
         name: "verbose",
         line: "Tells what it serves on standard error",
         ..ENDING

@@ -187,6 +187,7 @@ fn server_of<'a>(alloc: Global, found: &ArgMatches<'a>) -> Serving<'a>
         cache: number(found, "cache").unwrap_or(32),
         idle: idle_in(found),
         ends_with_input: has(found, "until-end-of-input"),
+        shows_without: has(found, "show-without"),
         is_verbose: has(found, "verbose"),
     }
 }

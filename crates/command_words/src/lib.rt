@@ -93,6 +93,8 @@ pub struct Serving<'a> {
     pub idle: u32,
     /// Whether the end of standard input ends it.
     pub ends_with_input: bool,
+    /// Whether it starts where an operation that can't be read may be a rejection note.
+    pub shows_without: bool,
     /// Whether each association, each exchange and each connection for a page or to the desk is a
     /// line on standard error, and each image that was not taken.
     pub is_verbose: bool,

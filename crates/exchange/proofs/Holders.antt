@@ -8,7 +8,7 @@ use Rattle.exchange.specs.declared.fault.ExchangeFault.{ExchangeFault}
 use Rattle.exchange.specs.declared.fault.ExchangeFault.TheVariants as exchanges
 use Rattle.exchange.specs.declared.fault.HolderFault.{HolderFault}
 use Rattle.exchange.specs.declared.fault.HolderFault.TheVariants as holders
-use Rattle.exchange.specs.Fault.{of_holder}
+use Rattle.exchange.specs.Fault.{of_holder, IsRefusal}
 use Rattle.exchange.specs.Held.{HasGrown, Looks, TakesIn}
 use Rattle.exchange.specs.Round.{RoundState, refusal_of, by_holder, TakesAsked, MemoryOr}
 use Rattle.exchange.proofs.Rounds.{same_option}
@@ -54,15 +54,16 @@ told X fault = Err fault
 
 -- What a holder refused to tell is told as that.
 pub refused_is : (X : Type 0) (P : HolderFault → Type 0) (cause : HolderFault) → P cause
-    → told X (of_holder cause) ≡ told X exchanges.Refused → P holders.Refused
-refused_is X P holders.Refused is e = is
-refused_is X P holders.Memory is e = absurd cc
+    → told X (of_holder cause) ≡ told X exchanges.Refused → IsRefusal P
+refused_is X P cause is e = (cause, is, cc)
 
 pub refused_or : (X : Type 0) (P : HolderFault → Type 0) (cause : HolderFault) → MemoryOr P cause
-    → told X (of_holder cause) ≡ told X exchanges.Refused → P holders.Refused
+    → told X (of_holder cause) ≡ told X exchanges.Refused → IsRefusal P
 refused_or X P holders.Memory is e = absurd cc
 refused_or X P holders.Refused (inl is) e = absurd cc
-refused_or X P holders.Refused (inr is) e = is
+refused_or X P holders.Refused (inr is) e = (holders.Refused, is, refl)
+refused_or X P holders.Unreadable (inl is) e = absurd cc
+refused_or X P holders.Unreadable (inr is) e = (holders.Unreadable, is, refl)
 
 -- What was given and not taken leaves what the holder has.
 pub untaken : {H : Type 0} (holds : H → Map) (alone : H → Type 0) (before after : H) (op : Op) (round : RoundState)

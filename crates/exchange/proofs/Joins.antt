@@ -14,6 +14,7 @@ use Rattle.site_state.proofs.Maps.{same_sites}
 use Rattle.exchange_frames.specs.declared.frame.Frame.{Frame}
 use Rattle.exchange_frames.specs.declared.frame.Frame.TheVariants.{Have, Give, Buckets, Differ, Hello}
 use Rattle.exchange_frames.specs.declared.reader.TheConstants.{MOST_DIGESTS}
+use Rattle.exchange.specs.declared.fault.HolderFault.{HolderFault}
 use Rattle.exchange.specs.declared.version.Version.{Version}
 use Rattle.exchange.specs.declared.version.Version.TheVariants.{Two}
 use Rattle.exchange.specs.Held.{place_of, is_in, offered, offered_in, HasGrown}
@@ -152,11 +153,12 @@ caller_begins holds alone before rest told t k talk =
 
 -- ---- two sides
 
-module _ {X Y : Type 0} (holds_x : X → Map) (alone_x : X → Type 0) (role_x : Role) (from_x to_x : Ends X)
-    (ended_x : Ended) (x : Exchanged holds_x alone_x role_x from_x to_x ended_x) (holds_y : Y → Map)
-    (alone_y : Y → Type 0) (role_y : Role) (from_y to_y : Ends Y) (ended_y : Ended)
-    (y : Exchanged holds_y alone_y role_y from_y to_y ended_y) (there : x.told ≡ y.heard) (back : y.told ≡ x.heard)
-    (version_x : x.side.round.version ≡ Two) (version_y : y.side.round.version ≡ Two)
+module _ {X Y : Type 0} (holds_x : X → Map) (alone_x : X → Type 0)
+    (refuses_x : X → X → List ℕ → HolderFault → Type 0) (role_x : Role) (from_x to_x : Ends X) (ended_x : Ended)
+    (x : Exchanged holds_x alone_x refuses_x role_x from_x to_x ended_x) (holds_y : Y → Map) (alone_y : Y → Type 0)
+    (refuses_y : Y → Y → List ℕ → HolderFault → Type 0) (role_y : Role) (from_y to_y : Ends Y) (ended_y : Ended)
+    (y : Exchanged holds_y alone_y refuses_y role_y from_y to_y ended_y) (there : x.told ≡ y.heard)
+    (back : y.told ≡ x.heard) (version_x : x.side.round.version ≡ Two) (version_y : y.side.round.version ≡ Two)
     (agree : Agree (holds_y to_y.holder) (holds_x to_x.holder)) where
   offering : Offering holds_y alone_y from_y.holder y.heard y.told y.side to_y.holder
   offering = offering_talk holds_y alone_y role_y from_y.holder y.heard y.told y.side to_y.holder y.talk
@@ -315,14 +317,16 @@ module _ {X Y : Type 0} (holds_x : X → Map) (alone_x : X → Type 0) (role_x :
 agree_back : (m n : Map) → Agree m n → Agree n m
 agree_back m n agree d o p at_n at_m = sym (agree d p o at_m at_n)
 
-module _ {A B : Type 0} (holds_a : A → Map) (alone_a : A → Type 0) (holds_b : B → Map) (alone_b : B → Type 0)
-    (from_a to_a : Ends A) (ended_a : Ended) (from_b to_b : Ends B) (ended_b : Ended)
-    (run : AreJoined holds_a alone_a from_a to_a ended_a holds_b alone_b from_b to_b ended_b)
+module _ {A B : Type 0} (holds_a : A → Map) (alone_a : A → Type 0)
+    (refuses_a : A → A → List ℕ → HolderFault → Type 0) (holds_b : B → Map) (alone_b : B → Type 0)
+    (refuses_b : B → B → List ℕ → HolderFault → Type 0) (from_a to_a : Ends A) (ended_a : Ended)
+    (from_b to_b : Ends B) (ended_b : Ended)
+    (run : AreJoined holds_a alone_a refuses_a from_a to_a ended_a holds_b alone_b refuses_b from_b to_b ended_b)
     (agree : Agree (holds_b to_b.holder) (holds_a to_a.holder)) where
-  abbrev a : Exchanged holds_a alone_a Caller from_a to_a ended_a
+  abbrev a : Exchanged holds_a alone_a refuses_a Caller from_a to_a ended_a
   a = run.caller
 
-  abbrev b : Exchanged holds_b alone_b Callee from_b to_b ended_b
+  abbrev b : Exchanged holds_b alone_b refuses_b Callee from_b to_b ended_b
   b = run.callee
 
   there : a.told ≡ b.heard
@@ -348,20 +352,20 @@ module _ {A B : Type 0} (holds_a : A → Map) (alone_a : A → Type 0) (holds_b 
   agree_too = agree_back (holds_b to_b.holder) (holds_a to_a.holder) agree
 
   gives_a : WasGained holds_a alone_a from_a to_a ended_a a.told holds_b alone_b Callee from_b to_b ended_b b.told
-  gives_a = was_gained holds_a alone_a Caller from_a to_a ended_a a holds_b alone_b Callee from_b to_b ended_b b there
-      back version_a meets.0 agree
+  gives_a = was_gained holds_a alone_a refuses_a Caller from_a to_a ended_a a holds_b alone_b refuses_b Callee from_b
+      to_b ended_b b there back version_a meets.0 agree
 
   gives_b : WasGained holds_b alone_b from_b to_b ended_b b.told holds_a alone_a Caller from_a to_a ended_a a.told
-  gives_b = was_gained holds_b alone_b Callee from_b to_b ended_b b holds_a alone_a Caller from_a to_a ended_a a back
-      there meets.0 version_a agree_too
+  gives_b = was_gained holds_b alone_b refuses_b Callee from_b to_b ended_b b holds_a alone_a refuses_a Caller from_a
+      to_a ended_a a back there meets.0 version_a agree_too
 
   -- Both agree, or neither does.
   both_agree : IsTrue ended_a.agreed ↔ IsTrue ended_b.agreed
   both_agree = (
-    agrees_too holds_a alone_a Caller from_a to_a ended_a a holds_b alone_b Callee from_b to_b ended_b b there back
-        version_a meets.0 agree,
-    agrees_too holds_b alone_b Callee from_b to_b ended_b b holds_a alone_a Caller from_a to_a ended_a a back there
-        meets.0 version_a agree_too,
+    agrees_too holds_a alone_a refuses_a Caller from_a to_a ended_a a holds_b alone_b refuses_b Callee from_b to_b
+        ended_b b there back version_a meets.0 agree,
+    agrees_too holds_b alone_b refuses_b Callee from_b to_b ended_b b holds_a alone_a refuses_a Caller from_a to_a
+        ended_a a back there meets.0 version_a agree_too,
   )
 
   -- what a side was given the other side has
@@ -378,22 +382,27 @@ module _ {A B : Type 0} (holds_a : A → Map) (alone_a : A → Type 0) (holds_b 
       → AllFits (holds_a from_a.holder) (holds_b to_b.holder) (holds_b to_b.holder)
       → holds_a to_a.holder ≡ holds_b to_b.holder
   equal here_a here_b finished_a finished_b tell_b fit_b tell_a fit_a =
-      let to_b_all = has_theirs holds_b alone_b Callee from_b to_b ended_b b holds_a alone_a Caller from_a to_a ended_a
-      a back there meets.0 version_a agree_too here_a here_b finished_b tell_b fit_b gave_b in
-      let to_a_all = has_theirs holds_a alone_a Caller from_a to_a ended_a a holds_b alone_b Callee from_b to_b ended_b
-      b there back version_a meets.0 agree here_b here_a finished_a tell_a fit_a gave_a in
+      let to_b_all = has_theirs holds_b alone_b refuses_b Callee from_b to_b ended_b b holds_a alone_a refuses_a
+      Caller from_a to_a ended_a a back there meets.0 version_a agree_too here_a here_b finished_b tell_b fit_b gave_b in
+      let to_a_all = has_theirs holds_a alone_a refuses_a Caller from_a to_a ended_a a holds_b alone_b refuses_b
+      Callee from_b to_b ended_b b there back version_a meets.0 agree here_b here_a finished_a tell_a fit_a gave_a in
       same_sites (holds_a to_a.holder) (holds_b to_b.holder)
       (λ d. same_option (held_at (holds_a to_a.holder) d) (held_at (holds_b to_b.holder) d) (to_b_all d) (to_a_all d))
 
-pub exchange_gives_all : {A B : Type 0} (holds_a : A → Map) (alone_a : A → Type 0) (holds_b : B → Map)
-    (alone_b : B → Type 0) → ExchangeGivesAll holds_a alone_a holds_b alone_b
-exchange_gives_all holds_a alone_a holds_b alone_b from_a to_a ended_a from_b to_b ended_b run agree = (
-  gives_a holds_a alone_a holds_b alone_b from_a to_a ended_a from_b to_b ended_b run agree,
-  gives_b holds_a alone_a holds_b alone_b from_a to_a ended_a from_b to_b ended_b run agree,
-  both_agree holds_a alone_a holds_b alone_b from_a to_a ended_a from_b to_b ended_b run agree,
-)
+pub exchange_gives_all : {A B : Type 0} (holds_a : A → Map) (alone_a : A → Type 0)
+    (refuses_a : A → A → List ℕ → HolderFault → Type 0) (holds_b : B → Map) (alone_b : B → Type 0)
+    (refuses_b : B → B → List ℕ → HolderFault → Type 0)
+    → ExchangeGivesAll holds_a alone_a refuses_a holds_b alone_b refuses_b
+exchange_gives_all holds_a alone_a refuses_a holds_b alone_b refuses_b from_a to_a ended_a from_b to_b ended_b run
+    agree = (
+      gives_a holds_a alone_a refuses_a holds_b alone_b refuses_b from_a to_a ended_a from_b to_b ended_b run agree,
+      gives_b holds_a alone_a refuses_a holds_b alone_b refuses_b from_a to_a ended_a from_b to_b ended_b run agree,
+      both_agree holds_a alone_a refuses_a holds_b alone_b refuses_b from_a to_a ended_a from_b to_b ended_b run agree,
+    )
 
-pub exchange_makes_equal : {A B : Type 0} (holds_a : A → Map) (alone_a : A → Type 0) (holds_b : B → Map)
-    (alone_b : B → Type 0) → ExchangeMakesEqual holds_a alone_a holds_b alone_b
-exchange_makes_equal holds_a alone_a holds_b alone_b from_a to_a ended_a from_b to_b ended_b run agree = equal holds_a
-    alone_a holds_b alone_b from_a to_a ended_a from_b to_b ended_b run agree
+pub exchange_makes_equal : {A B : Type 0} (holds_a : A → Map) (alone_a : A → Type 0)
+    (refuses_a : A → A → List ℕ → HolderFault → Type 0) (holds_b : B → Map) (alone_b : B → Type 0)
+    (refuses_b : B → B → List ℕ → HolderFault → Type 0)
+    → ExchangeMakesEqual holds_a alone_a refuses_a holds_b alone_b refuses_b
+exchange_makes_equal holds_a alone_a refuses_a holds_b alone_b refuses_b from_a to_a ended_a from_b to_b ended_b run
+    agree = equal holds_a alone_a refuses_a holds_b alone_b refuses_b from_a to_a ended_a from_b to_b ended_b run agree

@@ -268,7 +268,7 @@ module _ {H : Type 0} (holds : H → Map) (alone : H → Type 0) (start : H) (he
       by op (inr r) =
           let mine = gift_in does.ops op (subst (λ (l : List Frame). Has l (Give op)) does.says r) in
           does.looks.was_had.until (digest_of op) (op_in op) (loaded_each does.looks.had
-          (held_of s.round.version want does.looks.had) does.ops does.looks.answers op mine)
+          (held_of s.round.version want does.looks.had) does.ops does.unread does.looks.answers op mine)
 
   next : (task : Task) → Fits s.role s.awaited task frame → Goes s.role s.awaited task
       → Does holds alone task s h more t k → Offering holds alone start (heard ++ frame ∷ []) (told ++ more) t k

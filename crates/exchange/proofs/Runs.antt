@@ -2,7 +2,8 @@
 use Rattle.std.proofs.Common.{inl, inr, ◌≡◌, ◌≤◌, ◌+◌, ℕ, List, [], ◌∷◌, ◌++◌, length, Bool, true, false}
 use Rattle.std.proofs.Common.{Option, Some, None, Result, Ok, Err, refl, sym, ap, subst, ◌∙◌, append_assoc, append-nil}
 use Rattle.std.proofs.Common.{arith}
-use Rattle.std.specs.Prelude.{◌↔◌, IfErr, OnOk, MatchBool, IsTrue, if◌then◌else◌}
+use Rattle.std.specs.Prelude.{◌↔◌, IfSome, MatchBool, IsTrue, if◌then◌else◌}
+use Rattle.std.specs.List.{AllByRecursion}
 use Rattle.std.specs.Io.KnownBytes.{Appends, Consumes}
 use Rattle.std.proofs.KnownBytes.{Appends-trans, Consumes-nil, Consumes-trans}
 use Rattle.std.proofs.lemmas.Grind.{flat_map-append}
@@ -30,16 +31,18 @@ use Rattle.exchange.specs.declared.task.Task.{Task}
 use Rattle.exchange.specs.declared.task.Task.TheVariants as tasks
 use Rattle.exchange.specs.Tasks.{task_for}
 use Rattle.exchange.specs.declared.side.Said.{Said}
-use Rattle.exchange.specs.Course.{news, Does, DoesAll, SetsOut, Performs, SetOut, HoldsGifts, Loads, Talks}
+use Rattle.exchange.specs.Held.{HasGrown}
+use Rattle.exchange.specs.Course.{news, passed_over, Does, DoesAll, SetsOut, Performs, SetOut, HoldsGifts, Loads}
+use Rattle.exchange.specs.Course.{Talks}
 use Rattle.exchange.specs.Course.{Idles, IsOfHolder, Why}
-use Rattle.exchange.specs.Hearing.{texts, is_io, Heard, Unheard, WhyUnheard, Fails}
-use Rattle.exchange.specs.Saying.{WroteFront, WhyUnsaid, AreSayable, SpeaksSaid}
+use Rattle.exchange.specs.Hearing.{texts, is_io, Heard, Unheard, WhyUnheard}
+use Rattle.exchange.specs.Saying.{WroteFront, WhyUnsaid, AreSayable, SpeaksSaid, WasUnreadable}
 use Rattle.exchange.specs.Run.{Ends, ends, NoneFailed, CountsFailures, Exchanged, EndsEarly}
-use Rattle.exchange.specs.Run.{Progress, Turned}
+use Rattle.exchange.specs.Run.{Progress, WereUnreadable}
 use Rattle.exchange.proofs.Agreed.{agreed_ends}
 use Rattle.exchange.proofs.Wholes.{seen_whole_ends}
 use Rattle.exchange.proofs.Frames.{frames_more, told_frames, first_frames}
-use Rattle.exchange.proofs.Gifts.{does_loads, sets_out_loads, loads_idle, so_said, so_holds}
+use Rattle.exchange.proofs.Gifts.{does_loads, sets_out_loads, loads_idle, so_said, so_holds, all_on, unread_since}
 use Rattle.exchange.proofs.Holders.{idles_same}
 use Rattle.exchange.proofs.Writings.{texts_more, why_behind, unsaid_turns}
 use Rattle.exchange.proofs.Outcomes.{outcome_of}
@@ -165,6 +168,7 @@ quiet_holder : (cause : HolderFault) → quiet (of_holder cause) ≡ true
 unfolding quiet
 quiet_holder holders.Memory = refl
 quiet_holder holders.Refused = refl
+quiet_holder holders.Unreadable = refl
 
 quiet_of : (fault : ExchangeFault) → IsOfHolder fault → quiet fault ≡ true
 quiet_of fault p = ap quiet p.1 ∙ quiet_holder p.0
@@ -203,14 +207,28 @@ pub unheard_refused : (r : Option (List ℕ)) (text : List ℕ) (fault : Exchang
 unheard_refused r text fault why e =
     let is : fault ≡ Refused = cc in subst (λ (x : ExchangeFault). WhyUnheard r text x) is why
 
+-- ---- what could not be read
+
+-- What was passed over since a set that has grown was passed over since it was before.
+unread_on : {H : Type 0} (holds : H → Map) (alone : H → Type 0) (refuses : H → H → List ℕ → HolderFault → Type 0)
+    (start mid : H) (s : Side) (unread : Option (List (List ℕ))) → HasGrown (holds start) (holds mid)
+    → WereUnreadable holds alone refuses start s.unread
+    → IfSome unread (AllByRecursion (WasUnreadable holds alone refuses mid))
+    → WereUnreadable holds alone refuses start (passed_over unread s).unread
+unread_on holds alone refuses start mid s None grown before now = before
+unread_on holds alone refuses start mid s (Some unread) grown before now =
+    all_on (WasUnreadable holds alone refuses mid) (WasUnreadable holds alone refuses start)
+    (unread_since holds alone refuses start mid grown) unread now
+
 -- ---- a turn
 
-module _ {H : Type 0} (holds : H → Map) (alone : H → Type 0) (role : Role) (from : Ends H) (h : H)
-    (r0 r1 w : Option (List ℕ)) (rf wf : ℕ) (side : Side) (reads n : ℕ)
-    (so : Progress holds alone role from (ends h r0 w rf wf) side reads n) where
+module _ {H : Type 0} (holds : H → Map) (alone : H → Type 0) (refuses : H → H → List ℕ → HolderFault → Type 0)
+    (role : Role) (from : Ends H) (h : H) (r0 r1 w : Option (List ℕ)) (rf wf : ℕ) (side : Side) (reads n : ℕ)
+    (so : Progress holds alone refuses role from (ends h r0 w rf wf) side reads n) where
   -- No frame was heard.
   pub unheard_breaks : (rf1 : ℕ) (fault : ExchangeFault) → Unheard r0 r1 reads fault
-      → MatchBool (is_io fault) (Rose rf rf1) (rf1 ≡ rf) → EndsEarly holds alone role from (ends h r1 w rf1 wf) fault
+      → MatchBool (is_io fault) (Rose rf rf1) (rf1 ≡ rf)
+      → EndsEarly holds alone refuses role from (ends h r1 w rf1 wf) fault
   unheard_breaks rf1 fault u failed = inr (record {
     heard = so.heard;
     told = so.told;
@@ -218,6 +236,7 @@ module _ {H : Type 0} (holds : H → Map) (alone : H → Type 0) (role : Role) (
     mid = h;
     talk = so.talk;
     comes_to = outcome_of holds alone role from.holder so.heard so.told side h so.talk;
+    refused = so.refused;
     idle = idles_same holds alone h h refl;
     rest = u.text;
     read = Consumes-trans from.left r0 r1 (texts so.heard) u.text so.read u.read;
@@ -234,7 +253,7 @@ module _ {H : Type 0} (holds : H → Map) (alone : H → Type 0) (role : Role) (
     -- One was, and was refused.
     pub refused_breaks : (k : H) (fault : ExchangeFault) → Idles holds alone h k
         → Why (task_for side.awaited frame side.role) side fault
-        → EndsEarly holds alone role from (ends k r1 w rf1 wf) fault
+        → EndsEarly holds alone refuses role from (ends k r1 w rf1 wf) fault
     refused_breaks k fault idle why =
         let q = quiet_why (task_for side.awaited frame side.role) side fault why in
         inr (record {
@@ -244,6 +263,7 @@ module _ {H : Type 0} (holds : H → Map) (alone : H → Type 0) (role : Role) (
           mid = h;
           talk = so.talk;
           comes_to = outcome_of holds alone role from.holder so.heard so.told side h so.talk;
+          refused = so.refused;
           idle = idle;
           rest = text_of frame;
           read = Consumes-trans from.left r0 r1 (texts so.heard) (text_of frame) so.read heard.read;
@@ -264,13 +284,20 @@ module _ {H : Type 0} (holds : H → Map) (alone : H → Type 0) (role : Role) (
       talk_too : Talks holds alone role from.holder (so.heard ++ frame ∷ []) (so.told ++ more) u k
       talk_too = talk_then holds alone role from.holder so.heard so.told side h frame more u k so.talk does
 
+      -- Nothing that was held is lost.
+      grown_too : HasGrown (holds from.holder) (holds k)
+      grown_too = (outcome_of holds alone role from.holder (so.heard ++ frame ∷ []) (so.told ++ more) u k
+          talk_too).grown
+
       -- It was answered, and the answer was written.
-      pub answered : (w1 : Option (List ℕ)) (wf1 : ℕ) → Appends w w1 (texts more) → AreSayable more → wf1 ≡ wf
-          → Progress holds alone role from (ends k r1 w1 rf1 wf1) u left (n + 1)
-      answered w1 wf1 wrote sayable fine = record {
+      pub answered : (w1 : Option (List ℕ)) (wf1 : ℕ) → WereUnreadable holds alone refuses from.holder u.unread
+          → Appends w w1 (texts more) → AreSayable more → wf1 ≡ wf
+          → Progress holds alone refuses role from (ends k r1 w1 rf1 wf1) u left (n + 1)
+      answered w1 wf1 unreadable wrote sayable fine = record {
         heard = so.heard ++ frame ∷ [];
         told = so.told ++ more;
         talk = talk_too;
+        refused = unreadable;
         heard_are = frames_more so.heard (frame ∷ []) so.heard_are (heard.lawful, tt);
         told_are = frames_more so.told more so.told_are (told_frames holds alone
             (task_for side.awaited frame side.role) side h frame more u k (fits side.awaited frame side.role)
@@ -302,16 +329,18 @@ module _ {H : Type 0} (holds : H → Map) (alone : H → Type 0) (role : Role) (
       }
 
       -- Of the answer a front was written.
-      pub unsaid_breaks : (j : H) (w1 : Option (List ℕ)) (wf1 : ℕ) (fault : ExchangeFault) → Idles holds alone k j
+      pub unsaid_breaks : (j : H) (w1 : Option (List ℕ)) (wf1 : ℕ) (fault : ExchangeFault)
+          → WereUnreadable holds alone refuses from.holder u.unread → Idles holds alone k j
           → WroteFront w w1 (texts more) → WhyUnsaid more fault → MatchBool (is_io fault) (Rose wf wf1) (wf1 ≡ wf)
-          → EndsEarly holds alone role from (ends j r1 w1 rf1 wf1) fault
-      unsaid_breaks j w1 wf1 fault idle wrote why failed = inr (record {
+          → EndsEarly holds alone refuses role from (ends j r1 w1 rf1 wf1) fault
+      unsaid_breaks j w1 wf1 fault unreadable idle wrote why failed = inr (record {
         heard = so.heard ++ frame ∷ [];
         told = so.told ++ more;
         side = u;
         mid = k;
         talk = talk_too;
         comes_to = outcome_of holds alone role from.holder (so.heard ++ frame ∷ []) (so.told ++ more) u k talk_too;
+        refused = unreadable;
         idle = idle;
         rest = [];
         read = subst (λ (t : List ℕ). Consumes from.left r1 t) (sym (append-nil (texts (so.heard ++ frame ∷ []))))
@@ -329,28 +358,54 @@ module _ {H : Type 0} (holds : H → Map) (alone : H → Type 0) (role : Role) (
             (wf1 ≡ x)) so.failed.1 failed) (same ∙ so.failed.0);
       })
 
-    -- What is said for it was said, or a front of it; the holder has loaded what was given.
-    pub said_turned : (k j : H) (u : Side) (said : Said) (w1 : Option (List ℕ)) (wf1 : ℕ)
-        (r : Result (Unit {0}) ExchangeFault)
-        → Performs holds alone (task_for side.awaited frame side.role) side h (Ok said) u k
-        → Loads holds alone said k j → (HoldsGifts (holds k) said → SpeaksSaid (holds k) said w w1 r)
-        → Fails r wf wf1 → Turned holds alone role from (ends j r1 w1 rf1 wf1) u left n r
-    said_turned k j u said w1 wf1 (Ok x) does loads speaks failed =
-        let task = task_for side.awaited frame side.role in
-        let spoke = speaks (so_holds (holds k) said _ does) in
-        answered j spoke.0 u
-        (does_loads holds alone task said side h spoke.0 u k j spoke.1 (so_said (holds k) said _ does spoke.0 spoke.1)
-        loads) w1 wf1 spoke.2.0 spoke.2.1 failed
-    said_turned k j u said w1 wf1 (Err fault) does loads speaks failed =
-        let spoke = speaks (so_holds (holds k) said _ does) in
-        unsaid_breaks k spoke.0 u (so_said (holds k) said _ does spoke.0 spoke.1) j w1 wf1 fault
-        (loads_idle holds alone said k j loads) spoke.2.0 spoke.2.1 failed
+    module _ (k j : H) (u : Side) (said : Said) (w1 : Option (List ℕ)) (wf1 : ℕ)
+        (does : Performs holds alone (task_for side.awaited frame side.role) side h (Ok said) u k)
+        (kept : u.unread ≡ side.unread) (loads : Loads holds alone said k j) where
+      abbrev task : Task
+      task = task_for side.awaited frame side.role
+
+      module _ (r : Result (Option (List (List ℕ))) ExchangeFault)
+          (spoke : SpeaksSaid (WasUnreadable holds alone refuses k) (holds k) said w w1 r) where
+        -- what was done, once it was said
+        done : Does holds alone task side h spoke.told (passed_over spoke.unread u) k
+        done = so_said (holds k) said _ does spoke.told spoke.unread spoke.says
+
+        unreadable : WereUnreadable holds alone refuses from.holder (passed_over spoke.unread u).unread
+        unreadable = unread_on holds alone refuses from.holder k u spoke.unread
+            (grown_too k spoke.told (passed_over spoke.unread u) done)
+            (subst (λ (ds : List (List ℕ)). WereUnreadable holds alone refuses from.holder ds) (sym kept) so.refused)
+            spoke.refused
+
+      -- What is said for it was said; the holder has loaded what was given.
+      pub said_on : (v : Side) (passed : Option (List (List ℕ))) → v ≡ passed_over passed u
+          → (HoldsGifts (holds k) said
+          → SpeaksSaid (WasUnreadable holds alone refuses k) (holds k) said w w1 (Ok passed))
+          → wf1 ≡ wf → Progress holds alone refuses role from (ends j r1 w1 rf1 wf1) v left (n + 1)
+      said_on v passed is speaks fine =
+          let spoke = speaks (so_holds (holds k) said _ does) in
+          subst (λ (x : Side). Progress holds alone refuses role from (ends j r1 w1 rf1 wf1) x left (n + 1))
+          (sym (is ∙ ap (λ (p : Option (List (List ℕ))). passed_over p u) spoke.answer))
+          (answered j spoke.told (passed_over spoke.unread u)
+          (does_loads holds alone task said side h spoke.told (passed_over spoke.unread u) k j spoke.unread spoke.says
+          (done (Ok passed) spoke) loads) w1 wf1 (unreadable (Ok passed) spoke) spoke.spoke.0 spoke.spoke.1 fine)
+
+      -- A front of it was.
+      pub said_breaks : (fault : ExchangeFault)
+          → (HoldsGifts (holds k) said
+          → SpeaksSaid (WasUnreadable holds alone refuses k) (holds k) said w w1 (Err fault))
+          → MatchBool (is_io fault) (Rose wf wf1) (wf1 ≡ wf)
+          → EndsEarly holds alone refuses role from (ends j r1 w1 rf1 wf1) fault
+      said_breaks fault speaks failed =
+          let spoke = speaks (so_holds (holds k) said _ does) in
+          unsaid_breaks k spoke.told (passed_over spoke.unread u) (done (Err fault) spoke) j w1 wf1 fault
+          (unreadable (Err fault) spoke) (loads_idle holds alone said k j loads) spoke.spoke.0 spoke.spoke.1 failed
 
 -- ---- the first words
 
-module _ {H : Type 0} (holds : H → Map) (alone : H → Type 0) (role : Role) (h k : H) (left w0 w1 : Option (List ℕ))
-    (rf wf0 wf1 : ℕ) (told : List Frame) (s : Side) (out : SetsOut holds alone role h told s k) where
-  opening : Talks holds alone role h [] told s k
+module _ {H : Type 0} (holds : H → Map) (alone : H → Type 0) (refuses : H → H → List ℕ → HolderFault → Type 0)
+    (role : Role) (h k : H) (left w0 w1 : Option (List ℕ)) (rf wf0 wf1 : ℕ) (told : List Frame) (s : Side)
+    (out : SetsOut holds alone role h told s k) where
+  pub opening : Talks holds alone role h [] told s k
   opening = record {
     first = told;
     rest = [];
@@ -361,12 +416,13 @@ module _ {H : Type 0} (holds : H → Map) (alone : H → Type 0) (role : Role) (
     told_is = sym (append-nil told);
   }
 
-  pub begun : Appends w0 w1 (texts told) → wf1 ≡ wf0
-      → Progress holds alone role (ends h left w0 rf wf0) (ends k left w1 rf wf1) s MOST_READS 0
-  begun wrote fine = record {
+  pub begun : WereUnreadable holds alone refuses h s.unread → Appends w0 w1 (texts told) → wf1 ≡ wf0
+      → Progress holds alone refuses role (ends h left w0 rf wf0) (ends k left w1 rf wf1) s MOST_READS 0
+  begun unreadable wrote fine = record {
     heard = [];
     told = told;
     talk = opening;
+    refused = unreadable;
     heard_are = tt;
     told_are = first_frames holds alone role h told s k out;
     read = Consumes-nil left;
@@ -377,16 +433,18 @@ module _ {H : Type 0} (holds : H → Map) (alone : H → Type 0) (role : Role) (
     failed = (refl, fine);
   }
 
-  pub unbegun : (j : H) (fault : ExchangeFault) → Idles holds alone k j → WroteFront w0 w1 (texts told)
-      → WhyUnsaid told fault → MatchBool (is_io fault) (Rose wf0 wf1) (wf1 ≡ wf0)
-      → EndsEarly holds alone role (ends h left w0 rf wf0) (ends j left w1 rf wf1) fault
-  unbegun j fault idle wrote why failed = inr (record {
+  pub unbegun : (j : H) (fault : ExchangeFault) → WereUnreadable holds alone refuses h s.unread
+      → Idles holds alone k j → WroteFront w0 w1 (texts told) → WhyUnsaid told fault
+      → MatchBool (is_io fault) (Rose wf0 wf1) (wf1 ≡ wf0)
+      → EndsEarly holds alone refuses role (ends h left w0 rf wf0) (ends j left w1 rf wf1) fault
+  unbegun j fault unreadable idle wrote why failed = inr (record {
     heard = [];
     told = told;
     side = s;
     mid = k;
     talk = opening;
     comes_to = outcome_of holds alone role h [] told s k opening;
+    refused = unreadable;
     idle = idle;
     rest = [];
     read = Consumes-nil left;
@@ -399,37 +457,56 @@ module _ {H : Type 0} (holds : H → Map) (alone : H → Type 0) (role : Role) (
   })
 
 -- The first words were said, or a front of them.
-module _ {H : Type 0} (holds : H → Map) (alone : H → Type 0) (role : Role) (h k j : H) (said : Said) (s : Side)
-    (w0 w1 : Option (List ℕ)) (wf0 wf1 : ℕ) (out : SetOut holds alone role h (Ok said) s k)
-    (loads : Loads holds alone said k j) where
-  pub set_out_ok : (r : Result (Unit {0}) ExchangeFault)
-      → (HoldsGifts (holds k) said → SpeaksSaid (holds k) said w0 w1 r) → Fails r wf0 wf1
-      → OnOk r ((left : Option (List ℕ)) (rf : ℕ)
-      → Progress holds alone role (ends h left w0 rf wf0) (ends j left w1 rf wf1) s MOST_READS 0)
-  set_out_ok (Ok x) speaks failed = λ left rf. let spoke = speaks (so_holds (holds k) said _ out) in
-      begun holds alone role h j left w0 w1 rf wf0 wf1 spoke.0 s
-      (sets_out_loads holds alone role said h spoke.0 s k j spoke.1 (so_said (holds k) said _ out spoke.0 spoke.1)
-      loads) spoke.2.0 failed
-  set_out_ok (Err fault) speaks failed = tt
+module _ {H : Type 0} (holds : H → Map) (alone : H → Type 0) (refuses : H → H → List ℕ → HolderFault → Type 0)
+    (role : Role) (h k j : H) (said : Said) (s : Side) (w0 w1 : Option (List ℕ)) (wf0 wf1 : ℕ)
+    (out : SetOut holds alone role h (Ok said) s k) (none : s.unread ≡ []) (loads : Loads holds alone said k j) where
+  module _ (r : Result (Option (List (List ℕ))) ExchangeFault)
+      (spoke : SpeaksSaid (WasUnreadable holds alone refuses k) (holds k) said w0 w1 r) where
+    -- what was set out with, once it was said
+    set : SetsOut holds alone role h spoke.told (passed_over spoke.unread s) k
+    set = so_said (holds k) said _ out spoke.told spoke.unread spoke.says
 
-  pub set_out_err : (r : Result (Unit {0}) ExchangeFault)
-      → (HoldsGifts (holds k) said → SpeaksSaid (holds k) said w0 w1 r) → Fails r wf0 wf1
-      → IfErr r (λ fault. (left : Option (List ℕ)) (rf : ℕ)
-      → EndsEarly holds alone role (ends h left w0 rf wf0) (ends j left w1 rf wf1) fault)
-  set_out_err (Ok x) speaks failed = tt
-  set_out_err (Err fault) speaks failed = λ left rf. let spoke = speaks (so_holds (holds k) said _ out) in
-      unbegun holds alone role h k left w0 w1 rf wf0 wf1 spoke.0 s (so_said (holds k) said _ out spoke.0 spoke.1) j
-      fault (loads_idle holds alone said k j loads) spoke.2.0 spoke.2.1 failed
+    -- nothing could not be read before
+    first_unread : WereUnreadable holds alone refuses h (passed_over spoke.unread s).unread
+    first_unread = unread_on holds alone refuses h k s spoke.unread
+        (outcome_of holds alone role h [] spoke.told (passed_over spoke.unread s) k
+        (opening holds alone refuses role h k w0 w0 w0 0 0 0 spoke.told (passed_over spoke.unread s) set)).grown
+        (subst (λ (ds : List (List ℕ)). WereUnreadable holds alone refuses h ds) (sym none) tt) spoke.refused
+
+  pub set_out_ok : (v : Side) (passed : Option (List (List ℕ))) → v ≡ passed_over passed s
+      → (HoldsGifts (holds k) said
+      → SpeaksSaid (WasUnreadable holds alone refuses k) (holds k) said w0 w1 (Ok passed)) → wf1 ≡ wf0
+      → (left : Option (List ℕ)) (rf : ℕ)
+      → Progress holds alone refuses role (ends h left w0 rf wf0) (ends j left w1 rf wf1) v MOST_READS 0
+  set_out_ok v passed is speaks fine left rf =
+      let spoke = speaks (so_holds (holds k) said _ out) in
+      subst (λ (x : Side). Progress holds alone refuses role (ends h left w0 rf wf0) (ends j left w1 rf wf1) x
+      MOST_READS 0) (sym (is ∙ ap (λ (p : Option (List (List ℕ))). passed_over p s) spoke.answer))
+      (begun holds alone refuses role h j left w0 w1 rf wf0 wf1 spoke.told (passed_over spoke.unread s)
+      (sets_out_loads holds alone role said h spoke.told (passed_over spoke.unread s) k j spoke.unread spoke.says
+      (set (Ok passed) spoke) loads) (first_unread (Ok passed) spoke) spoke.spoke.0 fine)
+
+  pub set_out_err : (fault : ExchangeFault)
+      → (HoldsGifts (holds k) said
+      → SpeaksSaid (WasUnreadable holds alone refuses k) (holds k) said w0 w1 (Err fault))
+      → MatchBool (is_io fault) (Rose wf0 wf1) (wf1 ≡ wf0) → (left : Option (List ℕ)) (rf : ℕ)
+      → EndsEarly holds alone refuses role (ends h left w0 rf wf0) (ends j left w1 rf wf1) fault
+  set_out_err fault speaks failed left rf =
+      let spoke = speaks (so_holds (holds k) said _ out) in
+      unbegun holds alone refuses role h k left w0 w1 rf wf0 wf1 spoke.told (passed_over spoke.unread s)
+      (set (Err fault) spoke) j fault (first_unread (Err fault) spoke) (loads_idle holds alone said k j loads)
+      spoke.spoke.0 spoke.spoke.1 failed
 
 -- ---- the end
 
 -- The exchange is over.
-pub ended : {H : Type 0} (holds : H → Map) (alone : H → Type 0) (role : Role) (from to : Ends H) (side : Side)
-    (reads n : ℕ) (e : Ended) → Progress holds alone role from to side reads n → side.awaited ≡ awaits.Nothing
-    → e.given ≡ side.given → e.taken ≡ side.taken → (IsTrue e.finished ↔ IsFinished side.round)
-    → e.agreed ≡ side.agreed → e.whole ≡ side.whole
-    → Exchanged holds alone role from to e
-ended holds alone role from to side reads n e so over given taken finished agreed whole =
+pub ended : {H : Type 0} (holds : H → Map) (alone : H → Type 0)
+    (refuses : H → H → List ℕ → HolderFault → Type 0) (role : Role) (from to : Ends H) (side : Side)
+    (reads n : ℕ) (e : Ended) → Progress holds alone refuses role from to side reads n
+    → side.awaited ≡ awaits.Nothing → e.given ≡ side.given → e.unread ≡ length side.unread → e.taken ≡ side.taken
+    → (IsTrue e.finished ↔ IsFinished side.round) → e.agreed ≡ side.agreed → e.whole ≡ side.whole
+    → Exchanged holds alone refuses role from to e
+ended holds alone refuses role from to side reads n e so over given unread taken finished agreed whole =
     let comes_to = outcome_of holds alone role from.holder so.heard so.told side to.holder so.talk in
     record {
       heard = so.heard;
@@ -444,6 +521,8 @@ ended holds alone role from to side reads n e so over given taken finished agree
       wrote = so.wrote;
       given = given;
       taken = taken;
+      unread = unread;
+      refused = so.refused;
       finished = (λ is. comes_to.finished.0 (finished.0 is), λ all. finished.1 (comes_to.finished.1 all));
       have = λ is. comes_to.have (finished.0 is);
       shown = λ theirs heard. let was = comes_to.shown theirs heard in (was.0, was.1, λ is. was.2 (finished.0 is));
@@ -455,16 +534,18 @@ ended holds alone role from to side reads n e so over given taken finished agree
     }
 
 -- It has no end.
-pub endless : {H : Type 0} (holds : H → Map) (alone : H → Type 0) (role : Role) (from to : Ends H) (side : Side)
-    (reads n : ℕ) → MOST_READS ≤ n → Progress holds alone role from to side reads n
-    → EndsEarly holds alone role from to Turns
-endless holds alone role from to side reads n many so = inr (record {
+pub endless : {H : Type 0} (holds : H → Map) (alone : H → Type 0)
+    (refuses : H → H → List ℕ → HolderFault → Type 0) (role : Role) (from to : Ends H) (side : Side) (reads n : ℕ)
+    → MOST_READS ≤ n → Progress holds alone refuses role from to side reads n
+    → EndsEarly holds alone refuses role from to Turns
+endless holds alone refuses role from to side reads n many so = inr (record {
   heard = so.heard;
   told = so.told;
   side = side;
   mid = to.holder;
   talk = so.talk;
   comes_to = outcome_of holds alone role from.holder so.heard so.told side to.holder so.talk;
+  refused = so.refused;
   idle = idles_same holds alone to.holder to.holder refl;
   rest = [];
   read = subst (λ (t : List ℕ). Consumes from.left to.left t) (sym (append-nil (texts so.heard))) so.read;

@@ -107,6 +107,7 @@ unsaid_turns frames fault (inr why) e = no_turns why.0.0 (sym why.0.1 ∙ e)
     no_turns : (cause : HolderFault) → of_holder cause ≡ Turns → ⊥
     no_turns holders.Memory is = cc
     no_turns holders.Refused is = cc
+    no_turns holders.Unreadable is = cc
 
 -- What could not be written no holder refused.
 pub unwritten_refused : (frames : List Frame) (r : Result (Unit {0}) ExchangeFault) → IfErr r (WhyUnwritten frames)
@@ -154,8 +155,8 @@ module _ (w0 w1 w2 : Option (List ℕ)) (all first more : List Frame) (so : Spok
         (why_behind so.0 (first ++ more) fault (why_before first more fault p.1)),
   )
 
-pub spoke_all : (w0 w1 w2 : Option (List ℕ)) (all rest : List Frame) → SpokeSome w0 w1 all rest
-    → (r : Result (Unit {0}) ExchangeFault) → Speaks w1 w2 rest r → Speaks w0 w2 all r
+pub spoke_all : {X : Type 0} (w0 w1 w2 : Option (List ℕ)) (all rest : List Frame) → SpokeSome w0 w1 all rest
+    → (r : Result X ExchangeFault) → Speaks w1 w2 rest r → Speaks w0 w2 all r
 spoke_all w0 w1 w2 all rest so (Ok x) p = (
   subst (λ (t : List ℕ). Appends w0 w2 t) (sym (ap (λ (frames : List Frame). texts frames) so.1 ∙ texts_more so.0 rest))
       (Appends-trans w0 w1 w2 (texts so.0) (texts rest) so.2 p.0),
@@ -166,7 +167,7 @@ spoke_all w0 w1 w2 all rest so (Err fault) p =
     breaks_off w0 w1 w2 all rest [] (so.0, so.1 ∙ same, so.2, so.3) fault p
 
 -- One frame was written, or a front of it.
-pub speaks_one : (w0 w1 : Option (List ℕ)) (frame : Frame) (r : Result (Unit {0}) ExchangeFault)
+pub speaks_one : {X : Type 0} (w0 w1 : Option (List ℕ)) (frame : Frame) (r : Result X ExchangeFault)
     → OnOk r (Appends w0 w1 (text_of frame)) → OnErr r (WroteFront w0 w1 (text_of frame))
     → IfErr r (WhyUnwritten (frame ∷ [])) → OnOk r (IsSayable frame) → Speaks w0 w1 (frame ∷ []) r
 speaks_one w0 w1 frame (Ok x) ok err why sayable =

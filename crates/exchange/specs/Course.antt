@@ -1,5 +1,5 @@
 -- What a side says for the frames that it hears, each over a set that its holder has then.
-use Rattle.std.specs.Prelude.{◌≡◌, ◌⊎◌, ℕ, ◌+◌, List, [], ◌∷◌, ◌++◌, map, length, Some, None, Result, Ok, Err}
+use Rattle.std.specs.Prelude.{◌≡◌, ◌⊎◌, ℕ, ◌+◌, ◌-◌, List, [], ◌∷◌, ◌++◌, map, length, Option, Some, None, Result, Ok, Err}
 use Rattle.std.specs.Prelude.{Bool, true, false, cond, ◌&&◌, ◌==◌, ⊤}
 use Rattle.operation.specs.declared.op.Op.{Op}
 use Rattle.operation.specs.declared.taken.Taken.{Taken}
@@ -13,8 +13,7 @@ use Rattle.exchange.specs.declared.version.Version.TheVariants.{One as version_o
 use Rattle.exchange.specs.declared.fault.ExchangeFault.{ExchangeFault}
 use Rattle.exchange.specs.declared.fault.ExchangeFault.TheVariants.{BadFrame}
 use Rattle.exchange.specs.declared.fault.HolderFault.{HolderFault}
-use Rattle.exchange.specs.declared.fault.HolderFault.TheVariants.{Refused}
-use Rattle.exchange.specs.Fault.{of_holder}
+use Rattle.exchange.specs.Fault.{of_holder, IsRefusal}
 use Rattle.exchange.specs.Held.{offered, offered_in, lacked, held_of, AreLoaded, HasGrown, Looks}
 use Rattle.exchange.specs.Parts.{told_in, do_fit, is_seen_whole}
 use Rattle.exchange.specs.Buckets.{bucket_list, unequal}
@@ -49,6 +48,7 @@ start_of role = record {
   awaited = first_awaited_by role;
   round = new_round version_one;
   given = 0;
+  unread = [];
   taken = 0;
   agreed = true;
   places = [];
@@ -65,29 +65,38 @@ next_after_gifts Caller = awaits.Buckets
 next_after_gifts Callee = awaits.Nothing
 next_after_gifts OldCaller = awaits.Buckets
 
+-- a side whose GIVEs were said: of those that were to be given these could not be read
+abbrev pub passed_over : Option (List (List ℕ)) → Side → Side
+passed_over None s = s
+passed_over (Some unread) s = record s { given = s.given - length unread; unread = unread }
+
 -- GIVEs, and END
 abbrev pub gifts_of : List Op → List Frame
 gifts_of ops = map (λ op. Give op) ops ++ End ∷ []
 
--- These frames are said, where what a set has stands for the operations that are given.
-abbrev pub IsSaid : Map → Said → List Frame → Type 0
-IsSaid m says.Nothing told = told ≡ []
-IsSaid m (says.One frame) told = told ≡ frame ∷ []
-IsSaid m (says.Gifts digests) told = (ops : List Op) × AreLoaded m digests ops × (told ≡ gifts_of ops)
+-- These frames are said, where what a set has stands for the operations that are given; of what was to be given these
+-- could not be read.
+abbrev pub IsSaid : Map → Said → List Frame → Option (List (List ℕ)) → Type 0
+IsSaid m says.Nothing told unread = (told ≡ []) × (unread ≡ None)
+IsSaid m (says.One frame) told unread = (told ≡ frame ∷ []) × (unread ≡ None)
+IsSaid m (says.Gifts digests) told unread =
+    (ops : List Op) × (passed : List (List ℕ)) × AreLoaded m digests ops passed × (told ≡ gifts_of ops)
+    × (unread ≡ Some passed)
 
 -- What a set has stands for what is to be given.
 abbrev pub HoldsGifts : Map → Said → Type 0
 HoldsGifts m says.Nothing = ⊤
 HoldsGifts m (says.One frame) = ⊤
-HoldsGifts m (says.Gifts digests) = (ops : List Op) × AreLoaded m digests ops
+HoldsGifts m (says.Gifts digests) = (ops : List Op) × AreLoaded m digests ops []
 
--- This is so of the frames that are said, whichever operations are loaded for what is given, and what a set has stands
--- for it.
-abbrev pub IsSoSaid : Map → Said → (List Frame → Type 0) → Type 0
-IsSoSaid m says.Nothing IsSo = IsSo []
-IsSoSaid m (says.One frame) IsSo = IsSo (frame ∷ [])
+-- This is so of the frames that are said and of what could not be read, whichever operations are loaded for what is
+-- given, and what a set has stands for it.
+abbrev pub IsSoSaid : Map → Said → (List Frame → Option (List (List ℕ)) → Type 0) → Type 0
+IsSoSaid m says.Nothing IsSo = IsSo [] None
+IsSoSaid m (says.One frame) IsSo = IsSo (frame ∷ []) None
 IsSoSaid m (says.Gifts digests) IsSo =
-    ((ops : List Op) → AreLoaded m digests ops → IsSo (gifts_of ops)) × HoldsGifts m (says.Gifts digests)
+    ((ops : List Op) (passed : List (List ℕ)) → AreLoaded m digests ops passed → IsSo (gifts_of ops) (Some passed))
+    × HoldsGifts m (says.Gifts digests)
 
 -- whether no place differed, where it did not before, and buckets differ in these
 abbrev pub agreed_with : Bool → List ℕ → Bool
@@ -138,13 +147,15 @@ pub record Asks {H : Type 0} (holds : H → Map) (alone : H → Type 0) (have : 
   pub version : t.round.version ≡ s.round.version
   pub same : t ≡ record s { awaited = awaits.Give; round = t.round; whole = s.whole && is_seen_whole s.places have }
 
--- a GIVE of each operation that is wanted and for which what is held stands, in the order of the WANT, and END
+-- a GIVE of each operation that is wanted and for which what is held stands, in the order of the WANT, but for those
+-- that could not be read; and END
 pub record Gives {H : Type 0} (holds : H → Map) (alone : H → Type 0) (want : List (List ℕ)) (s : Side) (before : H)
     (told : List Frame) (t : Side) (after : H) : Type 0 where
   pub ops : List Op
-  pub looks : Looks holds alone before after (λ m. AreLoaded m (held_of s.round.version want m) ops)
+  pub unread : List (List ℕ)
+  pub looks : Looks holds alone before after (λ m. AreLoaded m (held_of s.round.version want m) ops unread)
   pub says : told ≡ gifts_of ops
-  pub same : t ≡ record s { awaited = next_after_gifts s.role; given = length ops }
+  pub same : t ≡ record s { awaited = next_after_gifts s.role; given = length ops; unread = unread }
 
 -- The holder takes an operation that was asked for, and nothing is said.
 pub record Takes {H : Type 0} (holds : H → Map) (alone : H → Type 0) (op : Op) (s : Side) (before : H)
@@ -184,12 +195,12 @@ SetsOut holds alone OldCaller before told s after = Shows holds alone (start_of 
 abbrev pub Performs : {H : Type 0} → (H → Map) → (H → Type 0) → Task → Side → H → Result Said ExchangeFault → Side → H
     → Type 0
 Performs holds alone task s before (Ok said) t after =
-    IsSoSaid (holds after) said (λ told. Does holds alone task s before told t after)
+    IsSoSaid (holds after) said (λ told unread. Does holds alone task s before told (passed_over unread t) after)
 Performs holds alone task s before (Err fault) t after = Idles holds alone before after
 
 abbrev pub SetOut : {H : Type 0} → (H → Map) → (H → Type 0) → Role → H → Result Said ExchangeFault → Side → H → Type 0
 SetOut holds alone role before (Ok said) t after =
-    IsSoSaid (holds after) said (λ told. SetsOut holds alone role before told t after)
+    IsSoSaid (holds after) said (λ told unread. SetsOut holds alone role before told (passed_over unread t) after)
 SetOut holds alone role before (Err fault) t after = Idles holds alone before after
 
 -- The holder refused, or memory did.
@@ -214,8 +225,8 @@ Why tasks.Rest s fault = ⊥
 -- holds.
 abbrev pub HasRefused : {H : Type 0} → (H → H → HolderFault → Type 0) → (H → H → Op → HolderFault → Type 0) → Task → H
     → H → Type 0
-HasRefused refuses_look refuses_take (tasks.Take op) before after = refuses_take before after op Refused
-HasRefused refuses_look refuses_take task before after = refuses_look before after Refused
+HasRefused refuses_look refuses_take (tasks.Take op) before after = IsRefusal (refuses_take before after op)
+HasRefused refuses_look refuses_take task before after = IsRefusal (refuses_look before after)
 
 -- what a holder does as a side speaks: it is asked for nothing, but to load what is given
 abbrev pub Loads : {H : Type 0} → (H → Map) → (H → Type 0) → Said → H → H → Type 0

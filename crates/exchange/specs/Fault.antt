@@ -1,5 +1,5 @@
 -- Faults of holders and of exchanges.
-use Rattle.std.specs.Prelude.{ℕ}
+use Rattle.std.specs.Prelude.{◌≡◌, ℕ}
 use Rattle.exchange_frames.specs.declared.fault.FrameFault.{FrameFault}
 use Rattle.exchange_frames.specs.declared.fault.FrameFault.TheVariants.{BadFrame, TooLong, Memory}
 use Rattle.exchange.specs.declared.fault.HolderFault.{HolderFault}
@@ -11,6 +11,7 @@ use Rattle.exchange.specs.declared.fault.ExchangeFault.TheVariants as exchanges
 abbrev pub number_of_holder : HolderFault → ℕ
 number_of_holder holders.Memory = 1
 number_of_holder holders.Refused = 2
+number_of_holder holders.Unreadable = 3
 
 abbrev pub number_of_exchange : ExchangeFault → ℕ
 number_of_exchange exchanges.BadFrame = 1
@@ -27,7 +28,12 @@ of_frame BadFrame = exchanges.BadFrame
 of_frame TooLong = exchanges.TooLong
 of_frame Memory = exchanges.Memory
 
--- and that of a holder
+-- and that of a holder: a load that can't be read ends no exchange, and nothing else answers so
 abbrev pub of_holder : HolderFault → ExchangeFault
 of_holder holders.Memory = exchanges.Memory
 of_holder holders.Refused = exchanges.Refused
+of_holder holders.Unreadable = exchanges.Refused
+
+-- A holder may refuse so for a cause that an exchange is told as a refusal.
+abbrev pub IsRefusal : (HolderFault → Type 0) → Type 0
+IsRefusal refuses = (cause : HolderFault) × refuses cause × (of_holder cause ≡ exchanges.Refused)

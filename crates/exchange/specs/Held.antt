@@ -1,6 +1,6 @@
 -- What a holder has, which of it a version speaks of, and how the holder's calls answer.
-use Rattle.std.specs.Prelude.{◌≡◌, ℕ, ◌==◌, Bool, true, false, not, List, [], ◌∷◌, filter, slice_index}
-use Rattle.std.specs.Prelude.{Option, Some, None, Result, Ok, Err, OnOk, if◌then◌else◌, is_some, ⊤}
+use Rattle.std.specs.Prelude.{◌≡◌, ◌⊎◌, ℕ, ◌==◌, Bool, true, false, not, List, [], ◌∷◌, filter, slice_index}
+use Rattle.std.specs.Prelude.{Option, Some, None, Result, Ok, Err, OnOk, if◌then◌else◌, is_some}
 use Rattle.std.specs.List.{list_any, filter_map}
 use Rattle.std.specs.FinMap as finmap
 use Rattle.std.specs.Map.{keys_of}
@@ -16,7 +16,7 @@ use Rattle.records.specs.StandIn.{op_in}
 use Rattle.exchange.specs.declared.version.Version.{Version}
 use Rattle.exchange.specs.declared.version.Version.TheVariants.{One, Two}
 use Rattle.exchange.specs.declared.fault.HolderFault.{HolderFault}
-use Rattle.exchange.specs.declared.fault.HolderFault.TheVariants.{Memory, Refused}
+use Rattle.exchange.specs.declared.fault.HolderFault.TheVariants.{Memory, Refused, Unreadable}
 
 -- ---- versions
 
@@ -105,12 +105,13 @@ abbrev pub IsLoaded : Map → List ℕ → Option Op → Type 0
 IsLoaded m digest None = held_at m digest ≡ None
 IsLoaded m digest (Some op) = StandsFor m digest op
 
--- What is held under some digests stands for these operations, in their order.
-abbrev pub AreLoaded : Map → List (List ℕ) → List Op → Type 0
-AreLoaded m [] [] = ⊤
-AreLoaded m [] (op ∷ ops) = ⊥
-AreLoaded m (digest ∷ digests) [] = ⊥
-AreLoaded m (digest ∷ digests) (op ∷ ops) = StandsFor m digest op × AreLoaded m digests ops
+-- Of these digests, in their order, what is held under one stands for the next of these operations, or it is the next
+-- of those that could not be read.
+abbrev pub AreLoaded : Map → List (List ℕ) → List Op → List (List ℕ) → Type 0
+AreLoaded m [] ops unread = (ops ≡ []) × (unread ≡ [])
+AreLoaded m (digest ∷ digests) ops unread =
+    ((op : Op) × (more : List Op) × (ops ≡ op ∷ more) × StandsFor m digest op × AreLoaded m digests more unread)
+    ⊎ ((more : List (List ℕ)) × (unread ≡ digest ∷ more) × AreLoaded m digests ops more)
 
 -- each key of a set is the digest of an operation
 abbrev pub HasDigests : Map → Type 0
@@ -123,6 +124,7 @@ HasDigests m = (digest : List ℕ) (held : Op) → held_at m digest ≡ Some hel
 abbrev pub RefusesTake : Map → Op → HolderFault → Type 0
 RefusesTake m op Memory = held_at m (digest_of op) ≡ None
 RefusesTake m op Refused = IsClash m op
+RefusesTake m op Unreadable = ⊥
 
 -- what was held under a digest is held under it
 abbrev pub HasGrown : Map → Map → Type 0

@@ -9,6 +9,7 @@ use Rattle.exchange_frames.specs.declared.frame.Frame.TheVariants.{Have, Buckets
 use Rattle.exchange_frames.specs.declared.reader.TheConstants.{MOST_DIGESTS}
 use Rattle.exchange.specs.declared.version.Version.{Version}
 use Rattle.exchange.specs.declared.version.Version.TheVariants.{Two}
+use Rattle.exchange.specs.declared.fault.HolderFault.{HolderFault}
 use Rattle.exchange.specs.Held.{offered, offered_in, place_of, is_in, IsRecorded, HasGrown}
 use Rattle.exchange.specs.Parts.{told_in, IsWhole}
 use Rattle.exchange.specs.Buckets.{bucket_list}
@@ -21,10 +22,12 @@ use Rattle.exchange.specs.RunLaws.{WasCompared, differing}
 use Rattle.exchange.specs.Run.{Ends, Exchanged}
 
 -- Both sides of one exchange ended, and the bytes that each wrote are those that the other read.
-pub record AreJoined {A B : Type 0} (holds_a : A → Map) (alone_a : A → Type 0) (from_a to_a : Ends A) (ended_a : Ended)
-    (holds_b : B → Map) (alone_b : B → Type 0) (from_b to_b : Ends B) (ended_b : Ended) : Type 0 where
-  pub caller : Exchanged holds_a alone_a Caller from_a to_a ended_a
-  pub callee : Exchanged holds_b alone_b Callee from_b to_b ended_b
+pub record AreJoined {A B : Type 0} (holds_a : A → Map) (alone_a : A → Type 0)
+    (refuses_a : A → A → List ℕ → HolderFault → Type 0) (from_a to_a : Ends A) (ended_a : Ended)
+    (holds_b : B → Map) (alone_b : B → Type 0) (refuses_b : B → B → List ℕ → HolderFault → Type 0)
+    (from_b to_b : Ends B) (ended_b : Ended) : Type 0 where
+  pub caller : Exchanged holds_a alone_a refuses_a Caller from_a to_a ended_a
+  pub callee : Exchanged holds_b alone_b refuses_b Callee from_b to_b ended_b
   pub there : texts caller.told ≡ texts callee.heard
   pub back : texts callee.told ≡ texts caller.heard
 
@@ -99,10 +102,11 @@ pub record WasGained {X Y : Type 0} (holds_x : X → Map) (alone_x : X → Type 
 
 -- A side that is finished holds in the end all that the other side offered, so all that this held as the exchange
 -- began, where what differs fits into one HAVE. One side agrees exactly where the other does.
-abbrev pub ExchangeGivesAll : {A B : Type 0} → (A → Map) → (A → Type 0) → (B → Map) → (B → Type 0) → Type 0
-ExchangeGivesAll {A} {B} holds_a alone_a holds_b alone_b =
+abbrev pub ExchangeGivesAll : {A B : Type 0} → (A → Map) → (A → Type 0) → (A → A → List ℕ → HolderFault → Type 0)
+    → (B → Map) → (B → Type 0) → (B → B → List ℕ → HolderFault → Type 0) → Type 0
+ExchangeGivesAll {A} {B} holds_a alone_a refuses_a holds_b alone_b refuses_b =
     (from_a to_a : Ends A) (ended_a : Ended) (from_b to_b : Ends B) (ended_b : Ended)
-    → (run : AreJoined holds_a alone_a from_a to_a ended_a holds_b alone_b from_b to_b ended_b)
+    → (run : AreJoined holds_a alone_a refuses_a from_a to_a ended_a holds_b alone_b refuses_b from_b to_b ended_b)
     → Agree (holds_b to_b.holder) (holds_a to_a.holder)
     → WasGained holds_a alone_a from_a to_a ended_a run.caller.told holds_b alone_b Callee from_b to_b ended_b
     run.callee.told
@@ -113,10 +117,11 @@ ExchangeGivesAll {A} {B} holds_a alone_a holds_b alone_b =
 -- Two sides that are finished, and that nobody else changes, hold the same in the end, if unequal digests of a place
 -- have unequal buckets in the two pairs of sets that were compared, and what was offered of them fits into one HAVE:
 -- what the callee held with what the caller did, and what the caller held with what the callee holds in the end.
-abbrev pub ExchangeMakesEqual : {A B : Type 0} → (A → Map) → (A → Type 0) → (B → Map) → (B → Type 0) → Type 0
-ExchangeMakesEqual {A} {B} holds_a alone_a holds_b alone_b =
+abbrev pub ExchangeMakesEqual : {A B : Type 0} → (A → Map) → (A → Type 0) → (A → A → List ℕ → HolderFault → Type 0)
+    → (B → Map) → (B → Type 0) → (B → B → List ℕ → HolderFault → Type 0) → Type 0
+ExchangeMakesEqual {A} {B} holds_a alone_a refuses_a holds_b alone_b refuses_b =
     (from_a to_a : Ends A) (ended_a : Ended) (from_b to_b : Ends B) (ended_b : Ended)
-    → AreJoined holds_a alone_a from_a to_a ended_a holds_b alone_b from_b to_b ended_b
+    → AreJoined holds_a alone_a refuses_a from_a to_a ended_a holds_b alone_b refuses_b from_b to_b ended_b
     → Agree (holds_b to_b.holder) (holds_a to_a.holder) → alone_a from_a.holder → alone_b from_b.holder
     → IsTrue ended_a.finished → IsTrue ended_b.finished
     → BucketsTell (offered Two (holds_b from_b.holder)) (offered Two (holds_a from_a.holder))

@@ -11,10 +11,11 @@ abbrev pub has_brought : Ended → Bool
 has_brought ended = nat_lt 0 ended.given || nat_lt 0 ended.taken
 
 -- What exchanges came to, and one more behind them: all that was given and taken, and whether all fitted in each;
--- whether all was given that was asked for, and whether both agreed, the last tells.
+-- what could not be read, whether all was given that was asked for, and whether both agreed, the last tells.
 abbrev pub with_last : Ended → Ended → Ended
 with_last all last = record {
   given = counted (all.given + last.given);
+  unread = last.unread;
   taken = counted (all.taken + last.taken);
   finished = last.finished;
   agreed = last.agreed;

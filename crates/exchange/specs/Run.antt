@@ -1,5 +1,6 @@
 -- What a whole exchange reads, says and leaves, over its devices and its holder.
 use Rattle.std.specs.Prelude.{◌≡◌, ◌⊎◌, ◌≤◌, ◌+◌, ◌↔◌, ℕ, List, [], ◌++◌, length, Option, Result, Ok, Err, IsTrue}
+use Rattle.std.specs.List.{AllByRecursion}
 use Rattle.std.specs.Io.KnownBytes.{Consumes, Appends}
 use Rattle.devices.specs.Failures.{Rose}
 use Rattle.operation.specs.declared.op.Op.{Op}
@@ -22,7 +23,7 @@ use Rattle.exchange.specs.Course.{Talks, Idles, IsOfHolder, Why, HasRefused}
 use Rattle.exchange.specs.Hearing.{texts, AreFrames, WhyUnheard}
 use Rattle.exchange.specs.RunLaws.{Outcome, IsGivenAll, HoldsWhatWasOffered, HoldsWhatWasShown, NoPlaceDiffers}
 use Rattle.exchange.specs.RunLaws.{AreSeenWhole}
-use Rattle.exchange.specs.Saying.{IsFront, WhyUnsaid}
+use Rattle.exchange.specs.Saying.{IsFront, WhyUnsaid, WasUnreadable}
 
 -- the holder, what the reader has left, what the writer holds, and how often each of the devices failed
 pub record Ends (H : Type 0) : Type 0 where
@@ -57,11 +58,19 @@ CountsFailures Memory from to = NoneFailed from to
 CountsFailures Turns from to = NoneFailed from to
 CountsFailures Refused from to = NoneFailed from to
 
+-- Each of these the holder refused to load, as one that can't be read, since it was this.
+abbrev pub WereUnreadable : {H : Type 0} → (H → Map) → (H → Type 0) → (H → H → List ℕ → HolderFault → Type 0) → H
+    → List (List ℕ) → Type 0
+WereUnreadable holds alone refuses_load start digests =
+    AllByRecursion (WasUnreadable holds alone refuses_load start) digests
+
 -- ---- an exchange that ended
 
 -- Just the frames of this role were read and written, each of those that were said over a set that the holder had.
-pub record Exchanged {H : Type 0} (holds : H → Map) (alone : H → Type 0) (role : Role) (from to : Ends H)
-    (ended : Ended) : Type 0 where
+-- What was passed over, where operations were given, the holder refused to load as what can't be read.
+pub record Exchanged {H : Type 0} (holds : H → Map) (alone : H → Type 0)
+    (refuses_load : H → H → List ℕ → HolderFault → Type 0) (role : Role) (from to : Ends H) (ended : Ended)
+    : Type 0 where
   pub heard : List Frame
   pub told : List Frame
   pub side : Side
@@ -74,6 +83,8 @@ pub record Exchanged {H : Type 0} (holds : H → Map) (alone : H → Type 0) (ro
   pub wrote : Appends from.written to.written (texts told)
   pub given : ended.given ≡ side.given
   pub taken : ended.taken ≡ side.taken
+  pub unread : ended.unread ≡ length side.unread
+  pub refused : WereUnreadable holds alone refuses_load from.holder side.unread
   pub finished : IsTrue ended.finished ↔ IsGivenAll heard told
   pub have : IsTrue ended.finished → HoldsWhatWasOffered (holds to.holder) heard
   pub shown : HoldsWhatWasShown holds alone side.round.version (IsTrue ended.finished) from.holder heard told to.holder
@@ -93,14 +104,16 @@ WhyBroke r1 side told rest out fault =
     × Why (task_for side.awaited frame side.role) side fault)) ⊎ ((rest ≡ []) × WhyUnsaid told fault))
 
 -- These frames were heard, and a front was written of what is said for them; what was taken stays.
-pub record BrokenOff {H : Type 0} (holds : H → Map) (alone : H → Type 0) (role : Role) (from to : Ends H)
-    (fault : ExchangeFault) : Type 0 where
+pub record BrokenOff {H : Type 0} (holds : H → Map) (alone : H → Type 0)
+    (refuses_load : H → H → List ℕ → HolderFault → Type 0) (role : Role) (from to : Ends H) (fault : ExchangeFault)
+    : Type 0 where
   pub heard : List Frame
   pub told : List Frame
   pub side : Side
   pub mid : H
   pub talk : Talks holds alone role from.holder heard told side mid
   pub comes_to : Outcome holds alone from.holder heard told side mid
+  pub refused : WereUnreadable holds alone refuses_load from.holder side.unread
   pub idle : Idles holds alone mid to.holder
   pub rest : List ℕ
   pub read : Consumes from.left to.left (texts heard ++ rest)
@@ -120,8 +133,10 @@ pub record Unbegun {H : Type 0} (holds : H → Map) (alone : H → Type 0) (from
   pub why : IsOfHolder fault
   pub failed : NoneFailed from to
 
-abbrev pub EndsEarly : {H : Type 0} → (H → Map) → (H → Type 0) → Role → Ends H → Ends H → ExchangeFault → Type 0
-EndsEarly holds alone role from to fault = Unbegun holds alone from to fault ⊎ BrokenOff holds alone role from to fault
+abbrev pub EndsEarly : {H : Type 0} → (H → Map) → (H → Type 0) → (H → H → List ℕ → HolderFault → Type 0) → Role
+    → Ends H → Ends H → ExchangeFault → Type 0
+EndsEarly holds alone refuses_load role from to fault =
+    Unbegun holds alone from to fault ⊎ BrokenOff holds alone refuses_load role from to fault
 
 -- The last that was asked of a holder it refused, for another cause than want of memory: what a task asks for, or to
 -- load the operation under a digest.
@@ -136,11 +151,13 @@ pub record WasRefused {H : Type 0} (holds : H → Map) (alone : H → Type 0)
 -- ---- turns
 
 -- all that was heard and said so far, in n turns, with so many reads left
-pub record Progress {H : Type 0} (holds : H → Map) (alone : H → Type 0) (role : Role) (from now : Ends H) (side : Side)
+pub record Progress {H : Type 0} (holds : H → Map) (alone : H → Type 0)
+    (refuses_load : H → H → List ℕ → HolderFault → Type 0) (role : Role) (from now : Ends H) (side : Side)
     (reads n : ℕ) : Type 0 where
   pub heard : List Frame
   pub told : List Frame
   pub talk : Talks holds alone role from.holder heard told side now.holder
+  pub refused : WereUnreadable holds alone refuses_load from.holder side.unread
   pub heard_are : AreFrames heard
   pub told_are : AreFrames told
   pub read : Consumes from.left now.left (texts heard)
@@ -151,7 +168,9 @@ pub record Progress {H : Type 0} (holds : H → Map) (alone : H → Type 0) (rol
   pub failed : NoneFailed from now
 
 -- what a turn leads to
-abbrev pub Turned : {H : Type 0} → (H → Map) → (H → Type 0) → Role → Ends H → Ends H → Side → ℕ → ℕ
-    → Result (Unit {0}) ExchangeFault → Type 0
-Turned holds alone role from to side reads n (Ok x) = Progress holds alone role from to side reads (n + 1)
-Turned holds alone role from to side reads n (Err fault) = EndsEarly holds alone role from to fault
+abbrev pub Turned : {H : Type 0} → (H → Map) → (H → Type 0) → (H → H → List ℕ → HolderFault → Type 0) → Role
+    → Ends H → Ends H → Side → ℕ → ℕ → Result (Unit {0}) ExchangeFault → Type 0
+Turned holds alone refuses_load role from to side reads n (Ok x) =
+    Progress holds alone refuses_load role from to side reads (n + 1)
+Turned holds alone refuses_load role from to side reads n (Err fault) =
+    EndsEarly holds alone refuses_load role from to fault

@@ -15,6 +15,9 @@ pub enum HolderFault {
     /// It refused for another cause, such as an equal digest with another operation.
     #[error("the holder refused")]
     Refused,
+    /// The operation is held, and can't be read. Only a load answers so.
+    #[error("the operation can't be read")]
+    Unreadable,
 }
 
 impl HolderFault {
@@ -25,6 +28,7 @@ impl HolderFault {
         match self {
             HolderFault::Memory => 1,
             HolderFault::Refused => 2,
+            HolderFault::Unreadable => 3,
         }
     }
 }
@@ -106,7 +110,7 @@ impl From<HolderFault> for ExchangeFault {
     fn from(fault: HolderFault) -> Self {
         match fault {
             HolderFault::Memory => ExchangeFault::Memory,
-            HolderFault::Refused => ExchangeFault::Refused,
+            HolderFault::Refused | HolderFault::Unreadable => ExchangeFault::Refused,
         }
     }
 }

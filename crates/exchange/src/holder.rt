@@ -33,7 +33,8 @@ pub trait Holder {
     // Why it may refuse to take an operation.
     ghost refuses_take: { Self → Self → Op → HolderFault → Type 0 };
 
-    // Why it may refuse to load the operation under a digest.
+    // Why it may refuse to load the operation under a digest: `Unreadable` is a cause of this one
+    // operation, and an exchange goes on behind it.
     ghost refuses_load: { Self → Self → List ℕ → HolderFault → Type 0 };
 
     /// The digests of all operations that a version speaks of, ascending.
@@ -79,7 +80,8 @@ pub trait Holder {
             (refuses_look self.old self.new)) };
 
     /// The operation of a digest, if it is held: one for which stands what lies under the digest.
-    /// What is in memory is shared.
+    /// What is in memory is shared. Where it is held and can't be read, others may be: then this is
+    /// told as `Unreadable`, which no other call answers.
     fn load(&mut self, alloc: Global, digest: &Digest) -> Result<Option<Op>, HolderFault>
         ensures { Looks holds alone self.old self.new (λ m. MatchResult result
             (IsLoaded m digest.now)

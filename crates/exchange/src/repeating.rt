@@ -21,6 +21,7 @@ impl Ended {
     /// What exchanges come to that have not begun.
     pub const NONE: Ended = Ended {
         given: 0,
+        unread: 0,
         taken: 0,
         finished: true,
         agreed: false,
@@ -28,12 +29,14 @@ impl Ended {
     };
 
     /// What these exchanges came to, and one more behind them: all that was given and taken, and
-    /// whether all fitted in each. Whether it was finished and agreed is that of the last.
+    /// whether all fitted in each. What could not be read, which is asked for again in each, and
+    /// whether it was finished and agreed is that of the last.
     pub fn with_last(self, last: Ended) -> Ended
         ensures { result ≡ with_last_in self last }
     {
         Ended {
             given: self.given.saturating_add(last.given),
+            unread: last.unread,
             taken: self.taken.saturating_add(last.taken),
             finished: last.finished,
             agreed: last.agreed,

@@ -17,6 +17,9 @@ pub enum Role {
 pub struct Ended {
     /// How many operations were given.
     pub given: u64,
+    /// How many operations that the peer asked for are held and could not be read. They were not
+    /// given.
+    pub unread: u64,
     /// How many operations were taken that were new to the holder.
     pub taken: u64,
     /// Whether all the operations that this side asked for were given to it.

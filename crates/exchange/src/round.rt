@@ -3,6 +3,7 @@
 ghost use Rattle.std.specs.Prelude.{◌≡◌, ◌≢◌, ◌↔◌, [], List, ℕ, Some, None, Err, cond, false, IfOk, OnOk, OnErr};
 ghost use Rattle.std.specs.Prelude.{IsErrOf, IsTrue, MatchResult};
 ghost use Rattle.operation.specs.Spelling.{digest_of};
+ghost use Rattle.exchange.specs.Fault.{IsRefusal};
 ghost use Rattle.exchange.specs.Held.{offered, offered_in, lacked, held_of, Looks};
 ghost use Rattle.exchange.specs.Buckets.{bucket_list, unequal as unequal_in};
 ghost use Rattle.exchange.specs.Round.{asked_at, is_among, with_given, refusal_of, IsFinished, TakesAsked, MemoryOr};
@@ -177,7 +178,7 @@ impl Round {
 
         // Each other fault is the holder's.
         ensures refused { IsErrOf result ExchangeFault.Refused
-            → H.refuses_take holder.old holder.new op HolderFault.Refused }
+            → IsRefusal (H.refuses_take holder.old holder.new op) }
         ensures memory { IsErrOf result ExchangeFault.Memory
             → H.refuses_take holder.old holder.new op HolderFault.Memory }
 

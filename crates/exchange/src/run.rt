@@ -26,18 +26,21 @@ fn set_out<W: Sink, H: Holder>(
 ) -> Result<(), ExchangeFault>
     requires { side.old ≡ start_of side.old.role }
     ensures ok { OnOk result ((left : Option (List ℕ)) (failed : ℕ) → Progress H.holds H.alone
-        side.old.role (ends holder.old left (W.contents writer.old) failed (W.failures writer.old))
+        H.refuses_load side.old.role
+        (ends holder.old left (W.contents writer.old) failed (W.failures writer.old))
         (ends holder.new left (W.contents writer.new) failed (W.failures writer.new))
         side.new MOST_READS 0) }
     ensures err { IfErr result (λ fault. (left : Option (List ℕ)) (failed : ℕ) → EndsEarly H.holds
-        H.alone side.old.role
+        H.alone H.refuses_load side.old.role
         (ends holder.old left (W.contents writer.old) failed (W.failures writer.old))
         (ends holder.new left (W.contents writer.new) failed (W.failures writer.new)) fault) }
     ensures refused { IsErrOf result ExchangeFault.Refused → WasRefused H.holds H.alone
         H.refuses_look H.refuses_take H.refuses_load holder.new }
 {
     let said = side.set_out(alloc, holder)?;
-    say(alloc, writer, holder, said)
+    let unread = say(alloc, writer, holder, said)?;
+    side.pass_over(unread);
+    Ok(())
 }
 
 /// One turn: a frame is heard, and what it calls for is said.
@@ -50,10 +53,11 @@ fn take_turn<R: Source, W: Sink, H: Holder>(
     holder: &mut H,
 ) -> Result<(), ExchangeFault>
     requires { side.old.taken < 2 ^ 64 - 1 }
-    ensures turn { (role : Role) (from : Ends _) (n : ℕ) → Progress H.holds H.alone role from
+    ensures turn { (role : Role) (from : Ends _) (n : ℕ) → Progress H.holds H.alone
+        H.refuses_load role from
         (ends holder.old (R.remaining reader.old) (W.contents writer.old)
         (R.failures reader.old) (W.failures writer.old)) side.old reads.old n
-        → Turned H.holds H.alone role from
+        → Turned H.holds H.alone H.refuses_load role from
         (ends holder.new (R.remaining reader.new) (W.contents writer.new)
         (R.failures reader.new) (W.failures writer.new)) side.new reads.new n result }
     ensures refused { IsErrOf result ExchangeFault.Refused → WasRefused H.holds H.alone
@@ -61,7 +65,9 @@ fn take_turn<R: Source, W: Sink, H: Holder>(
 {
     let frame = hear(alloc, reader, reads)?;
     let said = side.on(alloc, holder, frame)?;
-    say(alloc, writer, holder, said)
+    let unread = say(alloc, writer, holder, said)?;
+    side.pass_over(unread);
+    Ok(())
 }
 
 /// Takes part in an exchange: offers what the holder has, and asks for what it lacks and takes it,
@@ -70,8 +76,9 @@ fn take_turn<R: Source, W: Sink, H: Holder>(
 /// `BadFrame` is told of a stream that ends too soon, of bytes that are no frame, and of a frame
 /// out of its turn; `TooLong` of a frame that is longer than is read or written; `Stranger` of an
 /// operation that was not asked for; `Turns` after 4,294,967,296 reads. What was taken before a
-/// fault stays. An operation that is given is loaded as its GIVE is written, so a holder that
-/// refuses to load one ends the exchange behind the GIVEs before it.
+/// fault stays. An operation that is given is loaded as its GIVE is written. One that is held and
+/// can't be read is passed over and counted, and all others are given; a holder that refuses to
+/// load one for another cause ends the exchange behind the GIVEs before it.
 pub fn run_exchange<R: Source, W: Sink, H: Holder>(
     alloc: Global,
     role: Role,
@@ -79,12 +86,12 @@ pub fn run_exchange<R: Source, W: Sink, H: Holder>(
     writer: &mut W,
     holder: &mut H,
 ) -> Result<Ended, ExchangeFault>
-    ensures ok { IfOk result (Exchanged H.holds H.alone role
+    ensures ok { IfOk result (Exchanged H.holds H.alone H.refuses_load role
         (ends holder.old (R.remaining reader.old) (W.contents writer.old)
         (R.failures reader.old) (W.failures writer.old))
         (ends holder.new (R.remaining reader.new) (W.contents writer.new)
         (R.failures reader.new) (W.failures writer.new))) }
-    ensures err { IfErr result (EndsEarly H.holds H.alone role
+    ensures err { IfErr result (EndsEarly H.holds H.alone H.refuses_load role
         (ends holder.old (R.remaining reader.old) (W.contents writer.old)
         (R.failures reader.old) (W.failures writer.old))
         (ends holder.new (R.remaining reader.new) (W.contents writer.new)

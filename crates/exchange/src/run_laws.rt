@@ -10,13 +10,15 @@ use crate::holder::Holder;
 /// differs fits into one HAVE; and else the places that the HAVE tells whole. Both agree or neither
 /// does, and where they do the buckets that were compared are equal.
 pub fn an_exchange_gives_all<A: Holder, B: Holder>()
-    ensures { ExchangeGivesAll A.holds A.alone B.holds B.alone }
+    ensures { ExchangeGivesAll A.holds A.alone A.refuses_load
+        B.holds B.alone B.refuses_load }
 {}
 
 /// Where both are finished, what differs fits into one HAVE each way, and nobody else changes
 /// either holder, both hold the same in the end.
 pub fn an_exchange_makes_holders_equal<A: Holder, B: Holder>()
-    ensures { ExchangeMakesEqual A.holds A.alone B.holds B.alone }
+    ensures { ExchangeMakesEqual A.holds A.alone A.refuses_load
+        B.holds B.alone B.refuses_load }
 {}
 
 /// What a side says that ended is said in one order, and it says no other frame: a caller HELLO,

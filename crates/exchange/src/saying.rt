@@ -12,13 +12,13 @@ ghost use Rattle.exchange.specs.Hearing.{Fails};
 ghost use Rattle.exchange.specs.Held.{StandsFor};
 ghost use Rattle.exchange.specs.Run.{WasRefused};
 ghost use Rattle.exchange.specs.Saying.{WroteFront, WhyUnwritten, GivesLawful, IsSayable};
-ghost use Rattle.exchange.specs.Saying.{SpeaksGive, SpeaksSaid};
+ghost use Rattle.exchange.specs.Saying.{SpeaksNext, SpeaksGifts, SpeaksSaid, WasUnreadable};
 
 use crate::fault::{ExchangeFault, HolderFault};
 use crate::holder::Holder;
 use crate::side::Said;
 use devices::{Sink, put_all};
-use exchange_frames::{Digests, Frame, a_give_is_a_frame, write_frame};
+use exchange_frames::{Digests, DigestsMut, Frame, a_give_is_a_frame, write_frame};
 use operation::{Digest, Op};
 use std::alloc::Global;
 
@@ -90,58 +90,69 @@ fn say_give<W: Sink>(alloc: Global, writer: &mut W, op: Op) -> Result<(), Exchan
     say_frame(alloc, writer, &frame)
 }
 
-/// Loads the operation under a digest and writes its GIVE. Where none is held nothing is written.
+/// Loads the operation under a digest and writes its GIVE. One that can't be read is passed over:
+/// nothing is written, and its digest is put behind those of the others. Where none is held nothing
+/// is written either.
 fn load_and_give<W: Sink, H: Holder>(
     alloc: Global,
     writer: &mut W,
     holder: &mut H,
     digest: &Digest,
+    unread: &mut DigestsMut,
 ) -> Result<(), ExchangeFault>
-    ensures speaks { (op : Operation) → StandsFor (H.holds holder.old) digest.now op
-        → SpeaksGive (H.holds holder.old) digest.now (W.contents writer.old)
-        (W.contents writer.new) result }
+    ensures speaks { (op : Operation) → StandsFor (H.holds holder.old) digest.now op → SpeaksNext
+        (WasUnreadable H.holds H.alone H.refuses_load holder.old) (H.holds holder.old) digest.now
+        (W.contents writer.old) (W.contents writer.new) unread.old unread.new result }
     ensures failed { Fails result (W.failures writer.old) (W.failures writer.new) }
     ensures idle { Idles H.holds H.alone holder.old holder.new }
     ensures refused { IsErrOf result ExchangeFault.Refused
         → H.refuses_load holder.old holder.new digest.now HolderFault.Refused }
 {
-    match holder.load(alloc, digest)? {
-        Some(op) => say_give(alloc, writer, op),
-        None => Ok(()),
+    match holder.load(alloc, digest) {
+        Ok(Some(op)) => say_give(alloc, writer, op),
+        Ok(None) => Ok(()),
+        Err(HolderFault::Unreadable) => Ok(unread.push(digest)?),
+        Err(HolderFault::Memory) => Err(ExchangeFault::Memory),
+        Err(HolderFault::Refused) => Err(ExchangeFault::Refused),
     }
 }
 
 /// Writes a GIVE of the operation under each digest, and END. Each is loaded when its turn comes,
-/// and none is kept.
+/// and none is kept. It answers those that could not be read, which it passes over.
 fn say_gifts<W: Sink, H: Holder>(
     alloc: Global,
     writer: &mut W,
     holder: &mut H,
     digests: &Digests,
-) -> Result<(), ExchangeFault>
-    ensures speaks { HoldsGifts (H.holds holder.old) (says.Gifts digests.now)
-        → SpeaksSaid (H.holds holder.old) (says.Gifts digests.now) (W.contents writer.old)
-        (W.contents writer.new) result }
+) -> Result<Digests, ExchangeFault>
+    ensures speaks { HoldsGifts (H.holds holder.old) (says.Gifts digests.now) → SpeaksGifts
+        (WasUnreadable H.holds H.alone H.refuses_load holder.old) (H.holds holder.old) digests.now
+        (W.contents writer.old) (W.contents writer.new) result }
     ensures failed { Fails result (W.failures writer.old) (W.failures writer.new) }
     ensures idle { Idles H.holds H.alone holder.old holder.new }
     ensures refused { IsErrOf result ExchangeFault.Refused → WasRefused H.holds H.alone
         H.refuses_look H.refuses_take H.refuses_load holder.new }
 {
+    let mut unread = DigestsMut::with_capacity(alloc, 0)?;
     let arrays = digests.as_arrays();
     for bytes in arrays {
-        load_and_give(alloc, writer, holder, &Digest::of(*bytes))?;
+        load_and_give(alloc, writer, holder, &Digest::of(*bytes), &mut unread)?;
     }
-    say_frame(alloc, writer, &Frame::End)
+    let unread = unread.freeze()?;
+    say_frame(alloc, writer, &Frame::End)?;
+    Ok(unread)
 }
 
-/// Writes what a side says, of which the holder loads what is given.
+/// Writes what a side says, of which the holder loads what is given. Where operations were to be
+/// given, it answers those that could not be read.
 pub(crate) fn say<W: Sink, H: Holder>(
     alloc: Global,
     writer: &mut W,
     holder: &mut H,
     said: Said,
-) -> Result<(), ExchangeFault>
-    ensures speaks { HoldsGifts (H.holds holder.old) said → SpeaksSaid (H.holds holder.old) said
+) -> Result<Option<Digests>, ExchangeFault>
+    ensures speaks { HoldsGifts (H.holds holder.old) said → SpeaksSaid
+        (WasUnreadable H.holds H.alone H.refuses_load holder.old) (H.holds holder.old) said
         (W.contents writer.old) (W.contents writer.new) result }
     ensures failed { Fails result (W.failures writer.old) (W.failures writer.new) }
     ensures loads { Loads H.holds H.alone said holder.old holder.new }
@@ -149,8 +160,11 @@ pub(crate) fn say<W: Sink, H: Holder>(
         H.refuses_look H.refuses_take H.refuses_load holder.new }
 {
     match said {
-        Said::Nothing => Ok(()),
-        Said::One(frame) => say_frame(alloc, writer, &frame),
-        Said::Gifts(digests) => say_gifts(alloc, writer, holder, &digests),
+        Said::Nothing => Ok(None),
+        Said::One(frame) => {
+            say_frame(alloc, writer, &frame)?;
+            Ok(None)
+        }
+        Said::Gifts(digests) => Ok(Some(say_gifts(alloc, writer, holder, &digests)?)),
     }
 }

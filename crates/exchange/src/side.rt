@@ -1,13 +1,13 @@
 //! One side of an exchange, as a machine: frames come in and frames go out.
 
-ghost use Rattle.std.specs.Prelude.{◌≡◌, ◌<◌, ◌^◌, ◌-◌, ◌↔◌, ◌&&◌, IfErr, IsErrOf, IsTrue};
+ghost use Rattle.std.specs.Prelude.{◌≡◌, ◌<◌, ◌^◌, ◌-◌, ◌↔◌, ◌&&◌, IfErr, IsErrOf, IsTrue, length};
 ghost use Rattle.exchange_frames.specs.declared.frame.Frame.TheVariants.{Hello};
 ghost use Rattle.exchange.specs.declared.side.Said.TheVariants as says;
 ghost use Rattle.exchange.specs.declared.task.Awaited.TheVariants as awaits;
 ghost use Rattle.exchange.specs.declared.task.Task.TheVariants as tasks;
 ghost use Rattle.exchange.specs.Tasks.{task_for};
 ghost use Rattle.exchange.specs.Course.{Performs, SetOut, Why, IsOfHolder, HasRefused, next_after_gifts};
-ghost use Rattle.exchange.specs.Course.{news, settled, start_of};
+ghost use Rattle.exchange.specs.Course.{news, settled, start_of, passed_over};
 ghost use Rattle.exchange.specs.Course.{agreed_with as agreed_in};
 ghost use Rattle.exchange.specs.Parts.{do_fit, is_seen_whole as is_seen_whole_in};
 ghost use Rattle.exchange.specs.Round.{IsFinished};
@@ -42,6 +42,8 @@ pub(crate) struct Side {
     awaited: Awaited,
     round: Round,
     given: u64,
+    /// The digests of the operations that were to be given and could not be read.
+    unread: Digests,
     taken: u64,
     agreed: bool,
     /// The places of the DIFFER that it said.
@@ -58,6 +60,7 @@ impl Drop for Side {
             awaited: _,
             round: _,
             given: _,
+            unread: _,
             taken: _,
             agreed: _,
             places: _,
@@ -127,6 +130,7 @@ impl Side {
             awaited: first_awaited(role),
             round: Round::new(alloc, Version::One),
             given: 0,
+            unread: Digests::new(),
             taken: 0,
             agreed: true,
             places: Octets::of(Vec::new(alloc)),
@@ -144,6 +148,7 @@ impl Side {
     /// How it ended.
     pub(crate) fn ended(&self) -> Ended
         ensures given { result.given ≡ self.now.given }
+        ensures unread { result.unread ≡ length self.now.unread }
         ensures taken { result.taken ≡ self.now.taken }
         ensures finished { IsTrue result.finished ↔ IsFinished self.now.round }
         ensures agreed { result.agreed ≡ self.now.agreed }
@@ -151,11 +156,23 @@ impl Side {
     {
         Ended {
             given: self.given,
+            unread: self.unread.len() as u64,
             taken: self.taken,
             finished: self.round.finished(),
             agreed: self.agreed,
             whole: self.whole,
         }
+    }
+
+    /// The GIVEs of this side were said. Of what was to be given these could not be read.
+    pub(crate) fn pass_over(&mut self, unread: Option<Digests>)
+        ensures { self.new ≡ passed_over unread self.old }
+    {
+        let Some(unread) = unread else {
+            return;
+        };
+        self.given = self.given.saturating_sub(unread.len() as u64);
+        self.unread = unread;
     }
 
     /// What is said before anything is heard.
@@ -166,6 +183,7 @@ impl Side {
     ) -> Result<Said, ExchangeFault>
         requires { self.old ≡ start_of self.old.role }
         ensures did { SetOut H.holds H.alone self.old.role holder.old result self.new holder.new }
+        ensures kept { self.new.unread ≡ self.old.unread }
         ensures why { IfErr result IsOfHolder }
         ensures refused { IsErrOf result ExchangeFault.Refused → HasRefused H.refuses_look
             H.refuses_take tasks.Show holder.old holder.new }
@@ -190,6 +208,7 @@ impl Side {
         requires { self.old.taken < 2 ^ 64 - 1 }
         ensures did { Performs H.holds H.alone (task_for self.old.awaited frame self.old.role)
             self.old holder.old result self.new holder.new }
+        ensures kept { self.new.unread ≡ self.old.unread }
         ensures why { IfErr result (Why (task_for self.old.awaited frame self.old.role) self.old) }
         ensures refused { IsErrOf result ExchangeFault.Refused → HasRefused H.refuses_look
             H.refuses_take (task_for self.old.awaited frame self.old.role) holder.old holder.new }
@@ -205,6 +224,7 @@ impl Side {
     ) -> Result<Said, ExchangeFault>
         requires { self.old.taken < 2 ^ 64 - 1 }
         ensures did { Performs H.holds H.alone task self.old holder.old result self.new holder.new }
+        ensures kept { self.new.unread ≡ self.old.unread }
         ensures why { IfErr result (Why task self.old) }
         ensures refused { IsErrOf result ExchangeFault.Refused → HasRefused H.refuses_look
             H.refuses_take task holder.old holder.new }
@@ -227,6 +247,7 @@ impl Side {
     fn show<H: Holder>(&mut self, alloc: Global, holder: &mut H) -> Result<Said, ExchangeFault>
         ensures did { Performs H.holds H.alone tasks.Show self.old holder.old result self.new
             holder.new }
+        ensures kept { self.new.unread ≡ self.old.unread }
         ensures why { IfErr result IsOfHolder }
         ensures refused { IsErrOf result ExchangeFault.Refused → HasRefused H.refuses_look
             H.refuses_take tasks.Show holder.old holder.new }
@@ -245,6 +266,7 @@ impl Side {
     ) -> Result<Said, ExchangeFault>
         ensures did { Performs H.holds H.alone (tasks.Begin version) self.old holder.old result
             self.new holder.new }
+        ensures kept { self.new.unread ≡ self.old.unread }
         ensures why { IfErr result IsOfHolder }
         ensures refused { IsErrOf result ExchangeFault.Refused → HasRefused H.refuses_look
             H.refuses_take (tasks.Begin version) holder.old holder.new }
@@ -272,6 +294,7 @@ impl Side {
     ) -> Result<Said, ExchangeFault>
         ensures did { Performs H.holds H.alone (tasks.Compare buckets.now) self.old holder.old
             result self.new holder.new }
+        ensures kept { self.new.unread ≡ self.old.unread }
         ensures why { IfErr result IsOfHolder }
         ensures refused { IsErrOf result ExchangeFault.Refused → HasRefused H.refuses_look
             H.refuses_take (tasks.Compare buckets.now) holder.old holder.new }
@@ -293,6 +316,7 @@ impl Side {
     ) -> Result<Said, ExchangeFault>
         ensures did { Performs H.holds H.alone (tasks.Offer places.now) self.old holder.old result
             self.new holder.new }
+        ensures kept { self.new.unread ≡ self.old.unread }
         ensures why { IfErr result IsOfHolder }
         ensures refused { IsErrOf result ExchangeFault.Refused → HasRefused H.refuses_look
             H.refuses_take (tasks.Offer places.now) holder.old holder.new }
@@ -315,6 +339,7 @@ impl Side {
     ) -> Result<Said, ExchangeFault>
         ensures did { Performs H.holds H.alone (tasks.Ask have.now) self.old holder.old result
             self.new holder.new }
+        ensures kept { self.new.unread ≡ self.old.unread }
         ensures why { IfErr result IsOfHolder }
         ensures refused { IsErrOf result ExchangeFault.Refused → HasRefused H.refuses_look
             H.refuses_take (tasks.Ask have.now) holder.old holder.new }
@@ -334,6 +359,7 @@ impl Side {
     ) -> Result<Said, ExchangeFault>
         ensures did { Performs H.holds H.alone (tasks.Give want.now) self.old holder.old result
             self.new holder.new }
+        ensures kept { self.new.unread ≡ self.old.unread }
         ensures why { IfErr result IsOfHolder }
         ensures refused { IsErrOf result ExchangeFault.Refused → HasRefused H.refuses_look
             H.refuses_take (tasks.Give want.now) holder.old holder.new }
@@ -349,6 +375,7 @@ impl Side {
         requires { self.old.taken < 2 ^ 64 - 1 }
         ensures did { Performs H.holds H.alone (tasks.Take op) self.old holder.old result self.new
             holder.new }
+        ensures kept { self.new.unread ≡ self.old.unread }
         ensures why { IfErr result (Why (tasks.Take op) self.old) }
         ensures refused { IsErrOf result ExchangeFault.Refused → HasRefused H.refuses_look
             H.refuses_take (tasks.Take op) holder.old holder.new }

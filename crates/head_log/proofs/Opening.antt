@@ -1,20 +1,27 @@
 -- What an open leaves of a file.
 use Rattle.std.proofs.Common.{◌≡◌, ◌≤◌, ◌<◌, [], ℕ, List, length, inl, inr, arith, sym, ◌∙◌, subst}
+use Rattle.std.proofs.Common.{Result, Ok, Err, OnErr}
 use Rattle.sqlite_disk.specs.declared.Disk.{Ghosts}
+use Rattle.head_log.specs.declared.gate.Gate.{Gate}
 use Rattle.head_log.specs.Gates.{EndsAt}
-use Rattle.head_log.specs.Groups.{KeepsGroups, Ready, StandsFor}
+use Rattle.head_log.specs.Groups.{KeepsGroups, Ready, StandsFor, first_gate}
 use Rattle.head_log.specs.Reads.{OnlyReads}
 use Rattle.head_log.proofs.Gates.{one_end, ready_ends}
 use Rattle.head_log.proofs.Laying.{none_yet}
 
 -- groups end where the gates do
-pub ready_at : (file : List ℕ) (end : ℕ) (groups : List (List ℕ)) → 1 < length file → EndsAt file end
+pub ready_at : (file : List ℕ) (end : Gate) (groups : List (List ℕ)) → 8 < length file → EndsAt file end
     → StandsFor file groups → Ready file end groups
 ready_at file end groups long ends (inl ready) =
     let were = ready_ends file ready.0 groups ready.1 in
-    let same = one_end file 0 were.sizes ends.sizes ready.0 end were.leads were.shut ends.leads ends.shut in
-    subst (λ (n : ℕ). Ready file n groups) same ready.1
+    let same = one_end file first_gate were.gates ends.gates ready.0 end were.leads were.shut ends.leads ends.shut in
+    subst (λ (gate : Gate). Ready file gate groups) same ready.1
 ready_at file end groups long ends (inr none) = absurd (omega (arith, none.0, long))
+
+-- what holds, holds of an error
+pub on_err : {T E P : Type 0} (result : Result T E) → P → OnErr result P
+on_err (Ok x) holds = tt
+on_err (Err e) holds = holds
 
 module _ {D : Type 0} (g : Ghosts D) where
   -- two calls that only read are one
@@ -37,8 +44,8 @@ module _ {D : Type 0} (g : Ghosts D) where
         left = λ c may. (c, crash c may, λ groups was. was);
       }
 
-  -- and so does one of a byte at most that was begun
-  pub kept_if_begun : (old new : D) → ((file : D) → g.may_leave file (g.seen file)) → length (g.seen old) ≤ 1
+  -- and so does one of eight bytes at most that was begun
+  pub kept_if_begun : (old new : D) → ((file : D) → g.may_leave file (g.seen file)) → length (g.seen old) ≤ 8
       → ((c : List ℕ) → g.may_leave new c → StandsFor c []) → KeepsGroups g old new
   kept_if_begun old new may_stay short begun =
       record {
@@ -49,6 +56,7 @@ module _ {D : Type 0} (g : Ghosts D) where
         left = λ c may. (
           g.seen old,
           may_stay old,
-          λ groups was. subst (λ (gs : List (List ℕ)). StandsFor c gs) (sym (none_yet (g.seen old) groups short was)) (begun c may),
+          λ groups was. subst (λ (gs : List (List ℕ)). StandsFor c gs) (sym (none_yet (g.seen old) groups short was))
+              (begun c may),
         );
       }

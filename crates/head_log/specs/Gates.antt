@@ -1,35 +1,44 @@
 -- The gates of a file, from one to the next. No sum is tested.
-use Rattle.std.specs.Prelude.{◌≡◌, ◌≢◌, ◌+◌, ◌<◌, ◌≤◌, ◌^◌, ℕ, List, [], ◌∷◌, length, slice_index}
+use Rattle.std.specs.Prelude.{◌≡◌, ◌+◌, ◌<◌, ◌≤◌, ◌^◌, ℕ, List, [], ◌∷◌, length, true, false}
 use Rattle.std.specs.Int.{w64, to_le_bytes}
 use Rattle.sqlite_disk.specs.Disk.{Holds}
+use Rattle.head_log.specs.declared.gate.Gate.{Gate}
+use Rattle.head_log.specs.Groups.{first_gate, is_shut_at}
 
--- an open gate, and behind it a length for which the file has room
-pub record IsOpenAt (file : List ℕ) (at n : ℕ) : Type 0 where
-  pub gate : slice_index file at ≡ 1
-  pub size : Holds file (at + 1) (to_le_bytes w64 n)
-  pub fits : n < 2 ^ 64
-  pub within : at + 41 + n ≤ length file
+-- A gate that is not shut, and behind it a length, for which the file has room, and a sum. The next gate stands behind
+-- so many bytes.
+pub record LeadsTo (file : List ℕ) (at : ℕ) (next : Gate) : Type 0 where
+  pub size : ℕ
+  pub not_shut : is_shut_at file at ≡ false
+  pub length_is : Holds file (at + 8) (to_le_bytes w64 size)
+  pub fits : size < 2 ^ 64
+  pub sum_is : Holds file (at + 16) next.prior
+  pub wide : length next.prior ≡ 32
+  pub place : next.at ≡ at + 48 + size
+  pub within : next.at ≤ length file
 
--- open gates lead from one offset to another, by the lengths behind them
-abbrev pub Leads : List ℕ → ℕ → List ℕ → ℕ → Type 0
-Leads file at [] end = at ≡ end
-Leads file at (n ∷ sizes) end = IsOpenAt file at n × Leads file (at + 41 + n) sizes end
+-- gates lead from one to another, by the lengths behind them
+abbrev pub Leads : List ℕ → Gate → List Gate → Gate → Type 0
+Leads file gate [] end = gate ≡ end
+Leads file gate (next ∷ gates) end = LeadsTo file gate.at next × Leads file next gates end
 
--- they lead from the front to a gate that is not open
-pub record EndsAt (file : List ℕ) (end : ℕ) : Type 0 where
-  pub sizes : List ℕ
-  pub leads : Leads file 0 sizes end
-  pub within : end < length file
-  pub shut : slice_index file end ≢ 1
+-- they lead from the front to one that is shut
+pub record EndsAt (file : List ℕ) (end : Gate) : Type 0 where
+  pub gates : List Gate
+  pub leads : Leads file first_gate gates end
+  pub within : end.at + 8 ≤ length file
+  pub shut : is_shut_at file end.at ≡ true
 
--- neither a gate that is not open stands here, nor an open one with its group
+-- neither a shut gate stands here, nor another with a group
 pub record IsStuckAt (file : List ℕ) (at : ℕ) : Type 0 where
-  pub no_gate : at < length file → slice_index file at ≡ 1
-  pub no_group : (n : ℕ) → ¬ IsOpenAt file at n
+  pub no_gate : at + 8 ≤ length file → is_shut_at file at ≡ false
+  pub no_group : (next : Gate) → ¬ LeadsTo file at next
 
 -- they lead from the front to where neither stands
 pub record IsCutAt (file : List ℕ) (at : ℕ) : Type 0 where
-  pub sizes : List ℕ
-  pub leads : Leads file 0 sizes at
-  pub some : 1 < length file
+  pub gates : List Gate
+  pub last : Gate
+  pub leads : Leads file first_gate gates last
+  pub place : last.at ≡ at
+  pub some : 8 < length file
   pub stuck : IsStuckAt file at

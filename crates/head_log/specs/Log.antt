@@ -1,6 +1,8 @@
 -- What a log shows.
-use Rattle.std.specs.Prelude.{◌≡◌, ◌&&◌, Bool, ℕ, Result, Ok, Err}
+use Rattle.std.specs.Prelude.{◌≡◌, ◌&&◌, Bool, ℕ, List, Result, Ok, Err, refl}
+use Rattle.std.specs.Coded.{Coded, code_by, coded×, coded_ℕ, coded_list}
 use Rattle.sqlite_disk.specs.declared.Disk.{Ghosts}
+use Rattle.head_log.specs.declared.gate.Gate.{Gate}
 use Rattle.head_log.specs.declared.log.HeadLog.{HeadLog}
 use Rattle.head_log.specs.declared.refused.Refused.{Refused}
 use Rattle.head_log.specs.Reads.{OnlyReads}
@@ -14,9 +16,13 @@ abbrev pub file_of : {D : Type 0} → Result (HeadLog D) (Refused D) → D
 file_of (Ok log) = log.disk
 file_of (Err refused) = refused.disk
 
--- where the next group goes
+-- the gate of the next group
+abbrev pub gate_of : {D : Type 0} → HeadLog D → Gate
+gate_of log = log.end
+
+-- where that stands
 abbrev pub end_of : {D : Type 0} → HeadLog D → ℕ
-end_of log = log.end
+end_of log = log.end.at
 
 -- a group can be added: no sync has failed, and the gate at the end is shut
 abbrev pub is_up : {D : Type 0} → Ghosts D → HeadLog D → Bool
@@ -27,3 +33,9 @@ pub record Looks {D : Type 0} (g : Ghosts D) (old new : HeadLog D) : Type 0 wher
   pub disk : OnlyReads g old.disk new.disk
   pub same : new.end ≡ old.end
   pub stays : new.is_open ≡ old.is_open
+
+-- a gate is stored as its parts
+abbrev pub gate_code : Coded Gate
+gate_code =
+    code_by (ℕ × List ℕ) (coded× coded_ℕ (coded_list coded_ℕ)) (λ gate. (gate.at, gate.prior))
+    (λ parts. record { at = parts.0; prior = parts.1 }) (λ _. refl)

@@ -1,58 +1,55 @@
-//! The two halves of adding a group: it is written behind a shut gate, and then the gate is opened.
+//! The gate before a group: what it is, and where it stands.
 
-ghost use Rattle.std.specs.Prelude.{◌≡◌, ◌+◌, ◌<◌, ◌≤◌, ◌++◌, ◌∷◌, ◌^◌, [], List, ℕ, length, IsTrue, OnOk};
-ghost use Rattle.sqlite_disk.specs.Disk.{CountsFault};
-ghost use Rattle.head_log.specs.Groups.{IsEnded, IsReady, IsStaged, LeavesEither, StandsFor, shut_text};
+ghost use Rattle.std.specs.Prelude.{◌≡◌, ◌+◌, ◌<◌, ◌^◌, List, length};
+ghost use Rattle.head_log.specs.Groups.{first_gate, gate_after, is_shut, sum_of};
 
-use sqlite_disk::Disk;
-use std::io;
+use crate::text::sum_of;
 
-/// Makes a file that is none yet one of no group.
-pub(crate) fn begin<D: Disk>(disk: &mut D) -> io::Result<()>
-    requires usable { IsTrue (D.Disk.is_usable disk.old) }
-    ensures ready { OnOk result (IsReady D.Disk disk.new 0 []) }
-    ensures ended { OnOk result (IsEnded D.Disk disk.new 0) }
-    ensures usable { OnOk result (IsTrue (D.Disk.is_usable disk.new)) }
-    ensures clean { IsTrue (D.Disk.is_clean disk.new) → IsTrue (D.Disk.is_clean disk.old) }
-    ensures crash { ((c : List ℕ) → D.Disk.may_leave disk.old c → length c ≤ 1)
-        → (c : List ℕ) → D.Disk.may_leave disk.new c → StandsFor c [] }
-    ensures counted { CountsFault result (D.Disk.faults disk.old) (D.Disk.faults disk.new) }
+/// A gate whose group is on the disk. Each of its bits is another than that of one which is shut.
+pub const OPEN: u64 = 0xE471_9A2D_C659_A36C;
+
+/// A gate behind which no group is yet.
+pub const SHUT: u64 = 0x1B8E_65D2_39A6_5C93;
+
+/// How many bits of a shut gate may be changed.
+const MOST_CHANGED: u32 = 16;
+
+/// Whether eight bytes are a shut gate.
+#[tactic(auto, unfolding(crate::specs::Groups::is_shut))]
+pub(crate) fn is_shut(gate: &[u8; 8]) -> bool
+    ensures { result ≡ is_shut gate.now }
 {
-    disk.write_at(0, &[0])?;
-    disk.sync()
+    (u64::from_le_bytes(*gate) ^ SHUT).count_ones() <= MOST_CHANGED
 }
 
-/// Writes a text behind a gate that stays shut, and syncs.
-pub(crate) fn stage<D: Disk>(disk: &mut D, end: usize, text: &[u8]) -> io::Result<()>
-    requires usable { IsTrue (D.Disk.is_usable disk.old) }
-    requires some { 0 < length text.now }
-    requires room { end + 1 < 2 ^ 64 }
-    ensures staged { OnOk result (IsStaged D.Disk disk.new end text.now) }
-    ensures usable { OnOk result (IsTrue (D.Disk.is_usable disk.new)) }
-    ensures clean { IsTrue (D.Disk.is_clean disk.new) → IsTrue (D.Disk.is_clean disk.old) }
-    // Whatever is answered, the gate is shut, and every crash leaves what was there.
-    ensures kept { (groups : List (List ℕ)) → IsReady D.Disk disk.old end groups
-        → IsReady D.Disk disk.new end groups }
-    ensures counted { CountsFault result (D.Disk.faults disk.old) (D.Disk.faults disk.new) }
-{
-    disk.write_at(end + 1, text)?;
-    disk.sync()
+/// A gate of a file: at which byte it stands, and the sum of the group before it.
+#[derive(Clone, Copy, Debug)]
+pub struct Gate {
+    pub at: usize,
+    pub prior: [u8; 32],
 }
 
-/// Opens the gate before a group that is staged, and syncs.
-pub(crate) fn open<D: Disk>(disk: &mut D, end: usize, group: &[u8]) -> io::Result<()>
-    requires usable { IsTrue (D.Disk.is_usable disk.old) }
-    requires staged { IsStaged D.Disk disk.old end (shut_text group.now) }
-    requires some { 0 < length group.now }
-    requires short { length group.now < 2 ^ 40 }
-    ensures opened { OnOk result ((groups : List (List ℕ)) → IsReady D.Disk disk.old end groups
-        → IsReady D.Disk disk.new (end + 41 + length group.now) (groups ++ group.now ∷ [])) }
-    ensures usable { OnOk result (IsTrue (D.Disk.is_usable disk.new)) }
-    ensures clean { IsTrue (D.Disk.is_clean disk.new) → IsTrue (D.Disk.is_clean disk.old) }
-    ensures crash { (groups : List (List ℕ)) → IsReady D.Disk disk.old end groups
-        → LeavesEither D.Disk disk.new groups group.now }
-    ensures counted { CountsFault result (D.Disk.faults disk.old) (D.Disk.faults disk.new) }
-{
-    disk.write_at(end, &[1])?;
-    disk.sync()
+impl Gate {
+    /// The gate of the first group. There is none before it, and its sum is all zeros.
+    pub fn first() -> Gate
+        ensures { result ≡ first_gate }
+    {
+        Gate {
+            at: 0,
+            prior: [0; 32],
+        }
+    }
+
+    /// The gate behind a group.
+    pub(crate) fn after(&self, group: &[u8]) -> Gate
+        requires room { self.now.at + 48 + length group.now < 2 ^ 64 }
+        ensures next { result ≡ gate_after self.now group.now }
+        ensures sum { result.prior ≡ sum_of self.now.prior group.now }
+        ensures place { result.at ≡ self.now.at + 48 + length group.now }
+    {
+        Gate {
+            at: self.at + 48 + group.len(),
+            prior: sum_of(&self.prior, group),
+        }
+    }
 }

@@ -2,33 +2,18 @@
 
 ghost use Rattle.std.specs.Prelude.{◌≡◌, ◌<◌, ◌≤◌, ◌+◌, ◌++◌, ◌^◌, ◌↔◌, ◌⊎◌, List, ℕ, Ok, None, length, IsTrue, IfOk};
 ghost use Rattle.std.specs.Prelude.{IfErr, IfSome, IsErrOf};
-ghost use Rattle.sha2.specs.Sha256.{sha256};
-ghost use Rattle.sqlite_disk.specs.Disk.{CountsFaultIf, Holds};
+ghost use Rattle.sqlite_disk.specs.Disk.{Holds};
 ghost use Rattle.head_log.specs.Fault.{CountsDisk};
-ghost use Rattle.head_log.specs.Groups.{IsGroupAt};
+ghost use Rattle.head_log.specs.Groups.{IsGroupAt, gate_after, sum_of};
 ghost use Rattle.head_log.specs.Reads.{OnlyReads};
 
 use crate::fault::HeadFault;
+use crate::found::Found;
+use crate::gate::Gate;
 use crate::text::has_sum;
-use crate::walk::size_at;
+use crate::walk::{size_at, sum_at};
 use sqlite_disk::Disk;
 use std::alloc::Global;
-use std::io;
-
-/// The sum of a group.
-fn sum_at<D: Disk>(disk: &mut D, at: usize) -> io::Result<[u8; 32]>
-    requires usable { IsTrue (D.Disk.is_usable disk.old) }
-    ensures read { IfOk result (λ sum. IsTrue (D.Disk.is_clean disk.new)
-        → Holds (D.Disk.seen disk.old) at sum) }
-    ensures same { OnlyReads D.Disk disk.old disk.new }
-    ensures counted { CountsFaultIf (IsTrue (D.Disk.is_clean disk.old)
-        → at + 32 ≤ length (D.Disk.seen disk.old))
-        result (D.Disk.faults disk.old) (D.Disk.faults disk.new) }
-{
-    let mut sum = [0; 32];
-    disk.read_at(at, &mut sum)?;
-    Ok(sum)
-}
 
 /// So many bytes.
 fn bytes_at<D: Disk>(
@@ -54,34 +39,41 @@ fn bytes_at<D: Disk>(
     Ok(bytes)
 }
 
-/// So many bytes behind their sum, or `None` where the sum is another.
+/// The group of so many bytes behind a gate, or `None` where its sum is another.
 fn tested_at<D: Disk>(
     alloc: Global,
     disk: &mut D,
-    at: usize,
+    gate: &Gate,
     size: usize,
-) -> Result<Option<Vec<u8>>, HeadFault>
+) -> Result<Option<Found>, HeadFault>
     requires usable { IsTrue (D.Disk.is_usable disk.old) }
     requires some { 0 < size }
-    requires room { at + 32 < 2 ^ 64 }
-    ensures held { IfOk result (λ found. IfSome found (λ group. IsTrue (D.Disk.is_clean disk.new)
-        → Holds (D.Disk.seen disk.old) at (sha256 group.items ++ group.items))) }
-    ensures size { IfOk result (λ found. IfSome found (λ group. length group.items ≡ size)) }
+    requires room { gate.now.at + 48 + size < 2 ^ 64 }
+    ensures held { IfOk result (λ found. IfSome found (λ it. IsTrue (D.Disk.is_clean disk.new)
+        → Holds (D.Disk.seen disk.old) (gate.now.at + 16)
+        (sum_of gate.now.prior it.group.items ++ it.group.items))) }
+    ensures size { IfOk result (λ found. IfSome found (λ it. length it.group.items ≡ size)) }
+    ensures next { IfOk result (λ found. IfSome found (λ it.
+        it.next ≡ gate_after gate.now it.group.items)) }
     ensures other { result ≡ Ok None → IsTrue (D.Disk.is_clean disk.new) → (group : List ℕ)
-        → length group ≡ size
-        → ¬ Holds (D.Disk.seen disk.old) at (sha256 group ++ group) }
+        → length group ≡ size → ¬ Holds (D.Disk.seen disk.old) (gate.now.at + 16)
+        (sum_of gate.now.prior group ++ group) }
     ensures only { IfErr result (λ fault. (fault ≡ HeadFault.Disk) ⊎ (fault ≡ HeadFault.Memory)) }
     ensures same { OnlyReads D.Disk disk.old disk.new }
     ensures disk { (IsTrue (D.Disk.is_clean disk.old)
-        → at + 32 + size ≤ length (D.Disk.seen disk.old))
+        → gate.now.at + 48 + size ≤ length (D.Disk.seen disk.old))
         → CountsDisk result (D.Disk.faults disk.old) (D.Disk.faults disk.new) }
 {
-    let sum = sum_at(disk, at)?;
-    let group = bytes_at(alloc, disk, at + 32, size)?;
-    if !has_sum(&group, &sum) {
+    let sum = sum_at(disk, gate.at + 16)?;
+    let group = bytes_at(alloc, disk, gate.at + 48, size)?;
+    if !has_sum(&gate.prior, &group, &sum) {
         return Ok(None);
     }
-    Ok(Some(group))
+    let next = Gate {
+        at: gate.at + 48 + size,
+        prior: sum,
+    };
+    Ok(Some(Found { group, next }))
 }
 
 /// Whether a group may have this size where so much room is left.
@@ -95,35 +87,37 @@ fn is_lawful(size: usize, room: usize) -> bool
 pub(crate) fn group_at<D: Disk>(
     alloc: Global,
     disk: &mut D,
-    at: usize,
+    gate: &Gate,
     end: usize,
-) -> Result<Vec<u8>, HeadFault>
+) -> Result<Found, HeadFault>
     requires usable { IsTrue (D.Disk.is_usable disk.old) }
-    requires before { at < end }
-    ensures group { IfOk result (λ group. IsTrue (D.Disk.is_clean disk.new)
-        → IsGroupAt (D.Disk.seen disk.old) at group.items) }
-    ensures before { IfOk result (λ group. at + 41 + length group.items ≤ end) }
-    ensures place { (n : ℕ) → IsErrOf result (HeadFault.Damaged n) → n ≡ at }
-    ensures damaged { IsErrOf result (HeadFault.Damaged at) → IsTrue (D.Disk.is_clean disk.new)
-        → (group : List ℕ) → at + 41 + length group ≤ end
-        → ¬ IsGroupAt (D.Disk.seen disk.old) at group }
+    requires before { gate.now.at < end }
+    ensures group { IfOk result (λ it. IsTrue (D.Disk.is_clean disk.new)
+        → IsGroupAt (D.Disk.seen disk.old) gate.now it.group.items) }
+    ensures before { IfOk result (λ it. gate.now.at + 48 + length it.group.items ≤ end) }
+    ensures next { IfOk result (λ it. it.next ≡ gate_after gate.now it.group.items) }
+    ensures place { (n : ℕ) → IsErrOf result (HeadFault.Damaged n) → n ≡ gate.now.at }
+    ensures damaged { IsErrOf result (HeadFault.Damaged gate.now.at)
+        → IsTrue (D.Disk.is_clean disk.new) → (group : List ℕ)
+        → gate.now.at + 48 + length group ≤ end
+        → ¬ IsGroupAt (D.Disk.seen disk.old) gate.now group }
     ensures only { ¬ IsErrOf result HeadFault.Closed }
     ensures fits { ¬ IsErrOf result HeadFault.TooLong }
     ensures same { OnlyReads D.Disk disk.old disk.new }
     ensures disk { (IsTrue (D.Disk.is_clean disk.old) → end ≤ length (D.Disk.seen disk.old))
         → CountsDisk result (D.Disk.faults disk.old) (D.Disk.faults disk.new) }
 {
-    if end - at < 41 {
-        return Err(HeadFault::Damaged(at));
+    if end - gate.at < 48 {
+        return Err(HeadFault::Damaged(gate.at));
     }
-    let Some(size) = size_at(disk, at)? else {
-        return Err(HeadFault::Damaged(at));
+    let Some(size) = size_at(disk, gate.at)? else {
+        return Err(HeadFault::Damaged(gate.at));
     };
-    if !is_lawful(size, end - at - 41) {
-        return Err(HeadFault::Damaged(at));
+    if !is_lawful(size, end - gate.at - 48) {
+        return Err(HeadFault::Damaged(gate.at));
     }
-    let Some(group) = tested_at(alloc, disk, at + 9, size)? else {
-        return Err(HeadFault::Damaged(at));
+    let Some(found) = tested_at(alloc, disk, gate, size)? else {
+        return Err(HeadFault::Damaged(gate.at));
     };
-    Ok(group)
+    Ok(found)
 }

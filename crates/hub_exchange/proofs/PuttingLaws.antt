@@ -15,7 +15,8 @@ use Rattle.op_shelf.specs.declared.kept.Kept.TheVariants as kinds
 use Rattle.op_shelf.specs.Keep.{AreSame, Gains, GainsAll, Finds, with_one}
 use Rattle.records.specs.StandIn.{op_in}
 use Rattle.exchange.specs.declared.fault.HolderFault.{HolderFault}
-use Rattle.hub_exchange.specs.Putting.{IsKept, AreKept, WasWritten, AddsOnly, IsLent, refusal_of, IsUnlike, RefusesRecord}
+use Rattle.hub_exchange.specs.Putting.{IsKept, AreKept, WasWritten, AddsOnly, IsLent, refusal_of_load, IsUnlike}
+use Rattle.hub_exchange.specs.Putting.{RefusesRecord}
 
 -- what stands behind the beginning of a beginning
 behind_both : {A : Type 0} (xs ys zs : List A) → IsPrefix xs ys → IsPrefix ys zs
@@ -223,7 +224,7 @@ module _ {P : Type 0} (refuses : P → P → List ℕ → ShelfFault → Type 0)
 
   -- Where the load was refused, that is.
   pub load_refused : (cause : ShelfFault) (fault : HolderFault) → refuses before after digest cause
-      → fault ≡ refusal_of cause → RefusesRecord (IsLent (Some before)) refuses has_loaded held digest fault
+      → fault ≡ refusal_of_load cause → RefusesRecord (IsLent (Some before)) refuses has_loaded held digest fault
   load_refused cause fault refused told =
       inl (record { before = before; named = refl; after = after; cause = cause; refused = refused; told = told })
 

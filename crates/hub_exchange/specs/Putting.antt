@@ -6,10 +6,12 @@ use Rattle.operation.specs.Spelling.{hash_of}
 use Rattle.records.specs.StandIn.{op_in}
 use Rattle.op_shelf.specs.declared.fault.ShelfFault.{ShelfFault}
 use Rattle.op_shelf.specs.declared.fault.ShelfFault.TheVariants as shelf_faults
+use Rattle.op_shelf.specs.declared.fault.StoreCause.{StoreCause}
+use Rattle.op_shelf.specs.declared.fault.StoreCause.TheVariants as causes
 use Rattle.op_shelf.specs.Keep.{IsFoundAs}
 use Rattle.site_state.specs.Site.{Map, held_at}
 use Rattle.exchange.specs.declared.fault.HolderFault.{HolderFault}
-use Rattle.exchange.specs.declared.fault.HolderFault.TheVariants.{Memory, Refused}
+use Rattle.exchange.specs.declared.fault.HolderFault.TheVariants.{Memory, Refused, Unreadable}
 use Rattle.exchange.specs.Held.{RefusesTake}
 
 -- An operation whose hash is this digest was put on a shelf: while what the shelf tells of its operations holds, it is
@@ -48,11 +50,25 @@ pub record HaveGoneOn {K : Type 0} (is_up : K → Type 0) (lasts : K → Op → 
   pub kept : is_up shelf → (op : Op) → lasted op → lasts shelf op
   pub gains : is_up shelf → GainsOnly (lasts shelf) before after
 
--- what a fault of the shelf is to a round
+-- what a fault of a put is to a round
 abbrev pub refusal_of : ShelfFault → HolderFault
 refusal_of (shelf_faults.Store _) = Refused
 refusal_of shelf_faults.BadRow = Refused
 refusal_of shelf_faults.Memory = Memory
+
+-- what it is to a load that the store refused: where the disk failed, or what it holds is damaged, others may be read
+abbrev pub refusal_by : StoreCause → HolderFault
+refusal_by causes.Full = Refused
+refusal_by causes.Failed = Unreadable
+refusal_by causes.Closed = Refused
+refusal_by causes.Damaged = Unreadable
+refusal_by causes.Other = Refused
+
+-- what a fault of a load is to a round: what lies under a digest and is no operation of it can't be read
+abbrev pub refusal_of_load : ShelfFault → HolderFault
+refusal_of_load (shelf_faults.Store cause) = refusal_by cause
+refusal_of_load shelf_faults.BadRow = Unreadable
+refusal_of_load shelf_faults.Memory = Memory
 
 -- This is the way to a shelf, or the shelf, that was lent.
 abbrev pub IsLent : {P : Type 0} → Option P → P → Type 0
@@ -92,15 +108,17 @@ abbrev pub IsNotOf : Op → Option Op → Type 0
 IsNotOf held None = ⊤
 IsNotOf held (Some op) = op_in op ≢ held
 
--- why what was found is not what stands for it: it is no operation of the record, or memory was refused for its own
+-- why what was found is not what stands for it: it is no operation of the record, so what is held can't be read, or
+-- memory was refused for its own
 abbrev pub IsUnlike : Op → Option Op → HolderFault → Type 0
 IsUnlike held found Memory = ⊤
-IsUnlike held found Refused = IsNotOf held found
+IsUnlike held found Refused = ⊥
+IsUnlike held found Unreadable = IsNotOf held found
 
 -- Why an operation is not loaded for which this one stands: one of these refused the load, or its answer is unlike it.
 abbrev pub RefusesRecord : {P : Type 0} → (P → Type 0) → (P → P → List ℕ → ShelfFault → Type 0)
     → (P → P → List ℕ → Option Op → Type 0) → Op → List ℕ → HolderFault → Type 0
-RefusesRecord these refuses has_loaded held digest fault = RefusesLoad these refuses refusal_of digest fault
+RefusesRecord these refuses has_loaded held digest fault = RefusesLoad these refuses refusal_of_load digest fault
     ⊎ ((found : Option Op) × HasAnswered these has_loaded digest found × IsUnlike held found fault)
 
 -- What a shelf answered to a load: while what it tells of its operations holds, one that it has, and the one that it has.
@@ -118,6 +136,13 @@ pub record RefusesLoadOnShelf {K : Type 0} (these : K → Type 0) (is_up : K →
   pub held : Op
   pub there : held_at before digest ≡ Some held
   pub why : RefusesRecord these refuses (HasFound is_up holds) held digest fault
+
+-- Why a site that began as this, on a shelf on which these lasted, does not load what it holds under a digest: its shelf,
+-- gone on from there, has no operation of the record.
+abbrev pub RefusesLoadSince : {K : Type 0} → (K → Type 0) → (K → Op → Type 0) → (K → Op → Type 0)
+    → (K → K → List ℕ → ShelfFault → Type 0) → (Op → Type 0) → Map → Map → Map → List ℕ → HolderFault → Type 0
+RefusesLoadSince is_up holds lasts refuses lasted opening before =
+    RefusesLoadOnShelf (HaveGoneOn is_up lasts lasted opening before) is_up holds refuses before
 
 -- why a site does not take the record of an operation: it does not take what stands for it, or memory was refused for
 -- the record

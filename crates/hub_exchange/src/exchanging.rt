@@ -3,7 +3,7 @@
 ghost use Rattle.std.specs.Prelude.{◌≡◌, IfOk, IfErr, ⊤};
 ghost use Rattle.exchange.specs.Run.{ends, Exchanged, EndsEarly};
 ghost use Rattle.operation.specs.declared.op.Op.{Op as Operation};
-ghost use Rattle.hub_exchange.specs.Putting.{HaveGoneOn};
+ghost use Rattle.hub_exchange.specs.Putting.{HaveGoneOn, RefusesLoadSince};
 
 use crate::shelf_holder::{AtOpening, ShelvedHolder};
 use devices::{Sink, Source};
@@ -33,12 +33,14 @@ fn exchange_with<E: AtOpening, K: Keep + Drop, R: Source, W: Sink>(
     requires opening { site ≡ E.opening }
     requires lasted { (op : Operation) → E.lasted op → K.lasts shelf op }
     ensures gone_on { HaveGoneOn K.is_up K.lasts E.lasted E.opening result.site result.shelf }
-    ensures ok { IfOk result.ended (Exchanged (λ s. s) (λ _. ⊤) role
+    ensures ok { IfOk result.ended (Exchanged (λ s. s) (λ _. ⊤)
+        (RefusesLoadSince K.is_up K.holds K.lasts K.refuses_load E.lasted E.opening) role
         (ends site (R.remaining reader.old) (W.contents writer.old)
         (R.failures reader.old) (W.failures writer.old))
         (ends result.site (R.remaining reader.new) (W.contents writer.new)
         (R.failures reader.new) (W.failures writer.new))) }
-    ensures err { IfErr result.ended (EndsEarly (λ s. s) (λ _. ⊤) role
+    ensures err { IfErr result.ended (EndsEarly (λ s. s) (λ _. ⊤)
+        (RefusesLoadSince K.is_up K.holds K.lasts K.refuses_load E.lasted E.opening) role
         (ends site (R.remaining reader.old) (W.contents writer.old)
         (R.failures reader.old) (W.failures writer.old))
         (ends result.site (R.remaining reader.new) (W.contents writer.new)
@@ -53,8 +55,8 @@ fn exchange_with<E: AtOpening, K: Keep + Drop, R: Source, W: Sink>(
 /// Takes part in an exchange with a site whose operations stand on a shelf, and gives both back.
 ///
 /// The faults are those of `run_exchange`: `Refused` where the shelf refused for another cause than
-/// memory, or has no operation of a record that the site holds, or where the site holds another
-/// under an equal digest.
+/// memory, or where the site holds another under an equal digest. What the shelf can't read, or of
+/// which it has no operation of the record that the site holds, is passed over and counted.
 pub fn exchange_on<K: Keep + Drop, R: Source, W: Sink>(
     alloc: Global,
     role: Role,
@@ -68,12 +70,14 @@ pub fn exchange_on<K: Keep + Drop, R: Source, W: Sink>(
     ensures gone_on { HaveGoneOn K.is_up K.lasts (K.lasts shelf) site result.site result.shelf }
 
     // What was said and heard, and what it comes to.
-    ensures ok { IfOk result.ended (Exchanged (λ s. s) (λ _. ⊤) role
+    ensures ok { IfOk result.ended (Exchanged (λ s. s) (λ _. ⊤)
+        (RefusesLoadSince K.is_up K.holds K.lasts K.refuses_load (K.lasts shelf) site) role
         (ends site (R.remaining reader.old) (W.contents writer.old)
         (R.failures reader.old) (W.failures writer.old))
         (ends result.site (R.remaining reader.new) (W.contents writer.new)
         (R.failures reader.new) (W.failures writer.new))) }
-    ensures err { IfErr result.ended (EndsEarly (λ s. s) (λ _. ⊤) role
+    ensures err { IfErr result.ended (EndsEarly (λ s. s) (λ _. ⊤)
+        (RefusesLoadSince K.is_up K.holds K.lasts K.refuses_load (K.lasts shelf) site) role
         (ends site (R.remaining reader.old) (W.contents writer.old)
         (R.failures reader.old) (W.failures writer.old))
         (ends result.site (R.remaining reader.new) (W.contents writer.new)

@@ -7,11 +7,12 @@ ghost use Rattle.op_shelf.specs.declared.fault.ShelfFault.{ShelfFault};
 ghost use Rattle.op_shelf.specs.Keep.{IsFoundAs};
 ghost use Rattle.records.specs.StandIn.{op_in};
 ghost use Rattle.hub_exchange.specs.Putting.{IsKept, AreKept, WasWritten, refusal_of};
+ghost use Rattle.hub_exchange.specs.Putting.{refusal_by as refusal_in, refusal_of_load as refusal_of_a_load};
 ghost use Rattle.hub_exchange.specs.Putting.{IsLent, IsUnlike, RefusesRecord, HasFound};
 
 use crate::{Extract, Ledger, LedgerName};
 use exchange::HolderFault;
-use op_shelf::{Keep, ShelfFault};
+use op_shelf::{Keep, ShelfFault, StoreCause};
 use operation::{Digest, Digested, Op};
 use records::RecordedOp;
 use std::alloc::Global;
@@ -129,7 +130,7 @@ pub trait Put<N: LedgerName> {
         ensures why { IfErr result (refuses_load self.old self.new digest.now) };
 }
 
-/// What a fault of the shelf is to a round: want of memory, or a refusal.
+/// What a fault of a put is to a round: want of memory, or a refusal.
 pub fn refusal_of_shelf(fault: ShelfFault) -> HolderFault
     ensures { result ≡ refusal_of fault }
 {
@@ -139,17 +140,40 @@ pub fn refusal_of_shelf(fault: ShelfFault) -> HolderFault
     }
 }
 
-/// What was found, where it is an operation of the record that is held.
+/// What it is to a load that the store refused. Where the disk failed, or what it holds is damaged,
+/// other operations may be read.
+fn refusal_by(cause: StoreCause) -> HolderFault
+    ensures { result ≡ refusal_in cause }
+{
+    match cause {
+        StoreCause::Failed | StoreCause::Damaged => HolderFault::Unreadable,
+        StoreCause::Full | StoreCause::Closed | StoreCause::Other => HolderFault::Refused,
+    }
+}
+
+/// What a fault of a load is to a round. What lies under a digest and is no operation of it can't
+/// be read.
+fn refusal_of_load(fault: ShelfFault) -> HolderFault
+    ensures { result ≡ refusal_of_a_load fault }
+{
+    match fault {
+        ShelfFault::Memory => HolderFault::Memory,
+        ShelfFault::Store(cause) => refusal_by(cause),
+        ShelfFault::BadRow => HolderFault::Unreadable,
+    }
+}
+
+/// What was found, where it is an operation of the record that is held, which else can't be read.
 fn of_record(alloc: Global, found: Option<Digested>, held: &RecordedOp) -> Result<Op, HolderFault>
     ensures found { IfOk result (λ op. (found ≡ Some op) × (op_in op ≡ held.now)) }
     ensures unlike { IfErr result (IsUnlike held.now found) }
 {
     let Some(op) = found else {
-        return Err(HolderFault::Refused);
+        return Err(HolderFault::Unreadable);
     };
     let recorded = RecordedOp::of(alloc, &op)?;
     if !recorded.equals(held) {
-        return Err(HolderFault::Refused);
+        return Err(HolderFault::Unreadable);
     }
     Ok(op.into_op())
 }
@@ -167,7 +191,7 @@ pub(crate) fn load_over<N: LedgerName, P: Put<N>>(
 {
     match shelf.load(digest) {
         Ok(found) => of_record(alloc, found, held),
-        Err(fault) => Err(refusal_of_shelf(fault)),
+        Err(fault) => Err(refusal_of_load(fault)),
     }
 }
 
@@ -187,6 +211,6 @@ pub(crate) fn load_from<K: Keep>(
 {
     match shelf.load(digest) {
         Ok(found) => of_record(alloc, found, held),
-        Err(fault) => Err(refusal_of_shelf(fault)),
+        Err(fault) => Err(refusal_of_load(fault)),
     }
 }

@@ -106,7 +106,7 @@ fn take_record(alloc: Global, site: &mut Site, op: &Digested) -> Result<Taken, H
 impl<K: Keep + Drop, E: AtOpening> Holder for ShelvedHolder<K, E> {
     ghost use Rattle.std.specs.Prelude.{◌≡◌};
     ghost use Rattle.exchange.specs.declared.fault.HolderFault.TheVariants.{Memory};
-    ghost use Rattle.hub_exchange.specs.Putting.{HaveGoneOn, RefusesOnShelf, RefusesLoadOnShelf};
+    ghost use Rattle.hub_exchange.specs.Putting.{HaveGoneOn, RefusesOnShelf, RefusesLoadSince};
 
     ghost holds = { λ s. s };
 
@@ -119,9 +119,7 @@ impl<K: Keep + Drop, E: AtOpening> Holder for ShelvedHolder<K, E> {
         RefusesOnShelf (HaveGoneOn K.is_up K.lasts E.lasted E.opening before) K.refuses before };
 
     // No operation of the record came of the shelf.
-    ghost refuses_load = { λ before.
-        RefusesLoadOnShelf (HaveGoneOn K.is_up K.lasts E.lasted E.opening before) K.is_up K.holds
-        K.refuses_load before };
+    ghost refuses_load = { RefusesLoadSince K.is_up K.holds K.lasts K.refuses_load E.lasted E.opening };
 
     fn digests(&mut self, alloc: Global, version: Version) -> Result<Digests, HolderFault> {
         self.site.see_lawful();

@@ -1,5 +1,6 @@
 -- What the faults of the two files are to a log of operations.
-use Rattle.std.proofs.Common.{◌≡◌, ℕ, Result, Ok, Err, IsErrOf, sym, ◌∙◌, ap}
+use Rattle.std.proofs.Common.{◌≡◌, ◌+◌, ◌-◌, ◌^◌, ◌≤◌, ℕ, min, inl, inr, Result, Ok, Err, IsErrOf, MatchResult, OnOk, sym, ◌∙◌, ap, subst, arith}
+use Rattle.std.proofs.Math.Nat.{le-min, min-le_right}
 use Rattle.std.specs.Result.{IsErrAnd}
 use Rattle.sqlite_disk.specs.Disk.{MoreFaults}
 use Rattle.body_log.specs.Fault.{CountsAs, CountsAsIf}
@@ -8,6 +9,7 @@ use Rattle.head_log.specs.declared.fault.HeadFault.TheVariants as of_heads
 use Rattle.op_log.specs.declared.fault.LogFault.{LogFault}
 use Rattle.op_log.specs.declared.fault.LogFault.TheVariants.{Disk, Closed, TooLong, DamagedHeads, DamagedBody}
 use Rattle.op_log.specs.declared.fault.LogFault.TheVariants.{Collision, Memory}
+use Rattle.op_log.specs.Staged.{StaysOrRises}
 use Rattle.op_log.specs.Fault.{fault_of_heads, IsOfLook, IsOfPut, IsOfRead, IsOfWrite}
 
 -- damage that is told is damage of the file of heads
@@ -68,3 +70,34 @@ pub counts_as : {V : Type 0} (r : Result V LogFault) (fault : LogFault) (old new
     → (fault ≡ Disk → MoreFaults old new) → CountsAs Disk r old new
 counts_as (Ok x) fault old new is counts = absurd is
 counts_as (Err e) fault old new is counts = λ told. counts (sym is ∙ told)
+
+-- a count that rose, and then stays or rises, rose
+pub rose_on : (old mid new : ℕ) → MoreFaults old mid → StaysOrRises mid new → MoreFaults old new
+rose_on old mid new rose (inl same) = subst (λ (n : ℕ). MoreFaults old n) (sym same) rose
+rose_on old mid new rose (inr more) =
+    let top : min (old + 1) (2 ^ 64 - 1) ≤ 2 ^ 64 - 1 = min-le_right (old + 1) (2 ^ 64 - 1) in
+    let low : min (old + 1) (2 ^ 64 - 1) ≤ min (mid + 1) (2 ^ 64 - 1) = le-min (omega (arith, rose)) top in
+    omega (arith, low, more)
+
+-- a count that stays or rises twice does so
+pub rises_twice : (old mid new : ℕ) → StaysOrRises old mid → StaysOrRises mid new → StaysOrRises old new
+rises_twice old mid new (inl same) next = subst (λ (n : ℕ). StaysOrRises n new) same next
+rises_twice old mid new (inr rose) next = inr (rose_on old mid new rose next)
+
+-- and so since before
+pub rose_since : (first old new : ℕ) → StaysOrRises first old → MoreFaults old new → MoreFaults first new
+rose_since first old new (inl same) rose = subst (λ (n : ℕ). MoreFaults n new) same rose
+rose_since first old new (inr before) rose = rose_on first old new before (inr rose)
+
+-- what holds where a call ends well, and what its count says then
+pub with_rises : {V P Q R : Type 0} (E : LogFault → Type 0) (r : Result V LogFault) → (P → Q → R) → OnOk r P → MatchResult r (λ _. Q) E
+    → OnOk r R
+with_rises E (Ok x) both p q = both p q
+with_rises E (Err e) both p q = tt
+
+-- where a collision is told, the count stays or rises
+pub rises_at : {V : Type 0} (r : Result V LogFault) (old new : ℕ) → IsErrOf r Collision
+    → MatchResult r (λ _. StaysOrRises old new) (λ fault. (fault ≡ Disk → MoreFaults old new) × (fault ≡ Collision → StaysOrRises old new))
+    → StaysOrRises old new
+rises_at (Ok x) old new told rises = rises
+rises_at (Err e) old new told rises = let same : e ≡ Collision = cc in rises.1 same

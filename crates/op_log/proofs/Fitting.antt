@@ -4,6 +4,8 @@ use Rattle.std.proofs.lemmas.List.{append_assoc, append-nil, length-append, get_
 use Rattle.std.proofs.lemmas.List.Elements.{All-nil, All-cons, All-head, All-tail}
 use Rattle.op_log.specs.Filling.{AreFit, AreTaken, IsFit, IsTaken}
 use Rattle.op_log.specs.Heads.{Head, IsSpelled, group_text, head_text, number_text}
+use Rattle.op_log.specs.Kept.{with_head, with_heads}
+use Rattle.op_log.proofs.Settling.{with_joined}
 use Rattle.op_log.proofs.Cutting.{one_head, eight, in_parts, after_long}
 
 -- heads one behind the other
@@ -28,37 +30,35 @@ some_head h rest =
     omega (arith, whole, parts, eight (length h.front))
 
 -- heads that fit, and more that fit behind them
-pub fit_joined : (end : ℕ) (old xs ys : List Head) → AreFit end old xs → AreFit end (old ++ xs) ys → AreFit end old (xs ++ ys)
-fit_joined end old [] ys fit more = subst (λ (hs : List Head). AreFit end hs ys) (append-nil old) more
-fit_joined end old (x ∷ xs) ys (first, rest) more =
-    (first, fit_joined end (old ++ x ∷ []) xs ys rest (subst (λ (hs : List Head). AreFit end hs ys) (sym (append_assoc old (x ∷ []) xs)) more))
+pub fit_joined : (end : ℕ) (old xs ys : List Head) → AreFit end old xs → AreFit end (with_heads old xs) ys → AreFit end old (xs ++ ys)
+fit_joined end old [] ys fit more = more
+fit_joined end old (x ∷ xs) ys (first, rest) more = (first, fit_joined end (with_head old x) xs ys rest more)
 
 pub fit_front : (end : ℕ) (old xs ys : List Head) → AreFit end old (xs ++ ys) → AreFit end old xs
 fit_front end old [] ys fit = tt
-fit_front end old (x ∷ xs) ys (first, rest) = (first, fit_front end (old ++ x ∷ []) xs ys rest)
+fit_front end old (x ∷ xs) ys (first, rest) = (first, fit_front end (with_head old x) xs ys rest)
 
-pub fit_behind : (end : ℕ) (old xs ys : List Head) → AreFit end old (xs ++ ys) → AreFit end (old ++ xs) ys
-fit_behind end old [] ys fit = subst (λ (hs : List Head). AreFit end hs ys) (sym (append-nil old)) fit
-fit_behind end old (x ∷ xs) ys (first, rest) =
-    subst (λ (hs : List Head). AreFit end hs ys) (append_assoc old (x ∷ []) xs) (fit_behind end (old ++ x ∷ []) xs ys rest)
+pub fit_behind : (end : ℕ) (old xs ys : List Head) → AreFit end old (xs ++ ys) → AreFit end (with_heads old xs) ys
+fit_behind end old [] ys fit = fit
+fit_behind end old (x ∷ xs) ys (first, rest) = fit_behind end (with_head old x) xs ys rest
 
 -- they are spelled, and lie below the offset
 pub fit_all : (P : Head → Type 0) (end : ℕ) (old xs : List Head) → ((h : Head) (heads : List Head) → IsFit end heads h → P h)
     → AreFit end old xs → All P xs
 fit_all P end old [] each fit = All-nil P
-fit_all P end old (x ∷ xs) each (first, rest) = All-cons P x xs (each x old first) (fit_all P end (old ++ x ∷ []) xs each rest)
+fit_all P end old (x ∷ xs) each (first, rest) = All-cons P x xs (each x old first) (fit_all P end (with_head old x) xs each rest)
 
 -- Heads that were cut off a text are the first of all that it has.
 pub record Goes (end : ℕ) (old heads others : List Head) (rest : List ℕ) : Type 0 where
   pub more : List Head
   pub are : others ≡ heads ++ more
   pub rest_is : rest ≡ group_text more
-  pub fit : AreFit end (old ++ heads) more
+  pub fit : AreFit end (with_heads old heads) more
 
 pub goes : (end : ℕ) (old heads others : List Head) (rest : List ℕ) → AreFit end old heads → AreFit end old others
     → group_text heads ++ rest ≡ group_text others → Goes end old heads others rest
 goes end old [] others rest fit fit' is =
-    record { more = others; are = refl; rest_is = is; fit = subst (λ (hs : List Head). AreFit end hs others) (sym (append-nil old)) fit' }
+    record { more = others; are = refl; rest_is = is; fit = fit' }
 goes end old (h ∷ heads) [] rest (first, more) fit' is =
     let some = some_head h (group_text heads ++ rest) in
     let whole : head_text h ++ (group_text heads ++ rest) ≡ [] = sym (append_assoc (head_text h) (group_text heads) rest) ∙ is in
@@ -67,13 +67,13 @@ goes end old (h ∷ heads) [] rest (first, more) fit' is =
 goes end old (h ∷ heads) (k ∷ others) rest (first, more) (first', more') is =
     let whole = sym (append_assoc (head_text h) (group_text heads) rest) ∙ is in
     let one = one_head h k (group_text heads ++ rest) (group_text others) first.spelled first'.spelled whole in
-    let same = subst (λ (x : Head). AreFit end (old ++ x ∷ []) others) (sym one.0) more' in
-    let it = goes end (old ++ h ∷ []) heads others rest more same one.1 in
+    let same = subst (λ (x : Head). AreFit end (with_head old x) others) (sym one.0) more' in
+    let it = goes end (with_head old h) heads others rest more same one.1 in
     record {
       more = it.more;
       are = ap (λ (x : Head). x ∷ others) (sym one.0) ∙ ap (λ (hs : List Head). h ∷ hs) it.are;
       rest_is = it.rest_is;
-      fit = subst (λ (hs : List Head). AreFit end hs it.more) (append_assoc old (h ∷ []) heads) it.fit;
+      fit = it.fit;
     }
 
 -- spelled heads of one text are the same
@@ -101,7 +101,7 @@ one_more end old mid new text between rest done it =
           ∙ sym (append_assoc (group_text done.heads) (head_text it.head) rest)
           ∙ ap (λ (t : List ℕ). (group_text done.heads ++ t) ++ rest) (sym (append-nil (head_text it.head)))
           ∙ ap (λ (t : List ℕ). t ++ rest) (sym (groups_joined done.heads (it.head ∷ [])));
-      new_is = it.new_is ∙ ap (λ (hs : List Head). hs ++ it.head ∷ []) done.new_is ∙ append_assoc old done.heads (it.head ∷ []);
+      new_is = it.new_is ∙ ap (λ (hs : List Head). with_head hs it.head) done.new_is ∙ sym (with_joined old done.heads (it.head ∷ []));
       fit = fit_joined end old done.heads (it.head ∷ []) done.fit (subst (λ (hs : List Head). IsFit end hs it.head) done.new_is it.fit, tt);
     }
 

@@ -1,14 +1,14 @@
 -- What holds of a log through a put.
-use Rattle.std.proofs.Common.{◌≡◌, ◌&&◌, ℕ, List, ◌++◌, ◌≤◌, Bool, true, false, length, take, inl, All, IsTrue}
-use Rattle.std.proofs.Common.{refl, ◌∙◌, ap, subst, arith}
-use Rattle.std.proofs.Math.Seq.{take-append_seam}
+use Rattle.std.proofs.Common.{◌≡◌, ◌&&◌, ℕ, List, ◌≤◌, Bool, true, false, inl, All, IsTrue}
+use Rattle.std.proofs.Common.{refl, subst, arith}
 use Rattle.std.proofs.lemmas.List.Elements.{All-same}
 use Rattle.sqlite_disk.specs.declared.Disk.{Ghosts}
 use Rattle.body_log.specs.declared.log.BodyLog.{BodyLog}
 use Rattle.body_log.specs.Log.{disk_of, end_of}
+use Rattle.head_log.specs.declared.gate.Gate.{Gate}
 use Rattle.head_log.specs.declared.log.HeadLog.{HeadLog}
 use Rattle.head_log.specs.Log.{is_up}
-use Rattle.head_log.specs.Log.{disk_of as heads_of, end_of as heads_end}
+use Rattle.head_log.specs.Log.{disk_of as heads_of, gate_of as heads_end}
 use Rattle.op_log.specs.Heads.{Head}
 use Rattle.op_log.specs.Kept.{IsBelow, IsKept}
 use Rattle.op_log.specs.Log.{GoesOn, IsSound, Opened, opened}
@@ -36,20 +36,13 @@ goes_nowhere gh gb log sound =
     }
 
 -- and a crash leaves the heads that are there
-pub leaves_none : {H B : Type 0} (gh : Ghosts H) (gb : Ghosts B) (heads : H) (heads_end : ℕ) (bodies : B) (end : ℕ)
-    (old : List Head)
-    (ops : List Op) → IsKept gh heads heads_end old → LeavesAllOrNone gh gb heads bodies end old ops
+pub leaves_none : {H B : Type 0} (gh : Ghosts H) (gb : Ghosts B) (heads : H) (heads_end : Gate) (bodies : B) (end : ℕ)
+    (old : List Head) (ops : List Op) → IsKept gh heads heads_end old → LeavesAllOrNone gh gb heads bodies end old ops
 leaves_none gh gb heads heads_end bodies end old ops kept h b left may = inl (
     record { groups = kept.groups; are = kept.are; laid = inl (heads_end, kept.ready h left); spelled = kept.spelled }
     )
 
--- the heads from before, where what came behind them is forgotten
-pub forgotten : (n : ℕ) (old new more kept : List Head) → n ≡ length old → new ≡ old ++ more → kept ≡ take n new
-    → kept ≡ old
-forgotten n old new more kept long are is =
-    is ∙ ap (λ (m : ℕ). take m new) long ∙ ap (λ (hs : List Head). take (length old) hs) are ∙ take-append_seam old more
-
--- and they lie below the end, which rose
+-- heads that are those from before lie below the end, which rose
 pub still_below : {B : Type 0} (a b : BodyLog B) (old kept : List Head) → kept ≡ old → end_of a ≤ end_of b → All
     (IsBelow (end_of a)) old
     → All (IsBelow (end_of b)) kept

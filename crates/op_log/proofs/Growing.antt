@@ -1,9 +1,9 @@
 -- What stays while data sets are written behind it.
-use Rattle.std.proofs.Common.{Result, Ok, Err, ◌≡◌, ◌≤◌, ℕ, List, [], ◌∷◌, ◌++◌, length, ◌-◌, take, drop, get_or, inl}
+use Rattle.std.proofs.Common.{Bool, false, Result, Ok, Err, ◌≡◌, ◌≤◌, ℕ, List, [], ◌∷◌, ◌++◌, length, ◌-◌, take, drop, get_or, inl}
 use Rattle.std.proofs.Common.{inr, All, sym, ◌∙◌, ap, subst, arith}
 use Rattle.std.proofs.Math.Seq.{take-length}
-use Rattle.std.proofs.lemmas.List.{append_assoc, append-nil}
-use Rattle.std.proofs.lemmas.List.Elements.{All-weaker, All-same, All-push}
+use Rattle.std.proofs.lemmas.List.{append_assoc}
+use Rattle.std.proofs.lemmas.List.Elements.{All-append, All-weaker}
 use Rattle.sqlite_disk.specs.Disk.{Holds, MoreFaults}
 use Rattle.sqlite_disk.specs.declared.Disk.{Ghosts}
 use Rattle.body_log.specs.declared.log.BodyLog.{BodyLog}
@@ -14,11 +14,14 @@ use Rattle.operation.specs.declared.op.Op.{Op}
 use Rattle.op_log.specs.declared.fault.LogFault.{LogFault}
 use Rattle.op_log.specs.declared.kept.Kept.{Kept}
 use Rattle.op_log.specs.declared.kept.Kept.TheVariants.{New, Known}
-use Rattle.op_log.specs.Heads.{Entry, Head, body_of, group_text, head_of, IsSpelled}
-use Rattle.op_log.specs.Kept.{IsBelow, IsLasting}
-use Rattle.op_log.specs.Puts.{LeavesAllOrNone, LeavesEither, LiesAt, Puts, PutsAll}
+use Rattle.operation.specs.Spelling.{hash_of}
+use Rattle.op_log.specs.Heads.{Entry, Head, body_of, group_text, IsSpelled, front_of}
+use Rattle.op_log.specs.Kept.{IsBelow, IsLasting, with_heads}
+use Rattle.op_log.specs.Puts.{ComesToClash, IsUnread, LeadsTo, LeavesAllOrNone, LeavesEither, LiesAt, Puts, PutsAll}
 use Rattle.op_log.specs.declared.group.Group.{Group}
-use Rattle.op_log.specs.Staged.{AreSettled, AreStaged, Counts, Grows, HasHeads, KeepsPlaces, Reaches}
+use Rattle.op_log.specs.Staged.{AreSettled, AreStaged, Counts, Grows, HasBytes, HasHeads, IsBegun, KeepsPlaces, Reaches, Rises, StaysOrRises}
+use Rattle.op_log.proofs.Faults.{rises_twice, rose_since}
+use Rattle.op_log.proofs.Settling.{with_joined}
 use Rattle.op_log.proofs.Fitting.{groups_joined}
 
 -- two calls that spare what lies below the end are one
@@ -76,11 +79,36 @@ lasts_on g a b grows e it some =
 pub below_on : (a b : ℕ) (heads : List Head) → a ≤ b → All (IsBelow a) heads → All (IsBelow b) heads
 below_on a b heads longer all = All-weaker (IsBelow a) (IsBelow b) (λ h low. omega (arith, low, longer)) heads all
 
+-- bytes to which a head leads stay where they are
+pub leads_on : {B : Type 0} (g : Ghosts B) (a b : BodyLog B) → Grows g a b → (h : Head) (whole : Bool)
+    → LeadsTo g (disk_of a) (end_of a) h whole → LeadsTo g (disk_of b) (end_of b) h whole
+leads_on g a b grows h whole it =
+    record { body = it.body; size = it.size; lies = lies_on g a b grows h.at it.body it.lies; is = it.is }
+
+-- nor what a file has there, once it is looked at again
+pub leads_from : {B : Type 0} (g : Ghosts B) (a b : BodyLog B) → g.seen (disk_of b) ≡ g.seen (disk_of a) → end_of b ≡ end_of a → (h : Head)
+    (whole : Bool) → IsBelow (end_of a) h → HasBytes (g.seen (disk_of a)) h whole → LeadsTo g (disk_of b) (end_of b) h whole
+leads_from g a b seen end h whole low it = record {
+  body = it.body;
+  size = it.size;
+  lies = λ some.
+      (subst (λ (f : List ℕ). Holds f h.at it.body) (sym seen) (it.held (omega (arith, some, it.size))), omega (arith, low, it.size, end));
+  is = it.is;
+}
+
+-- what can't be read still can't
+pub unread_on : {B : Type 0} (g : Ghosts B) (a b : BodyLog B) → Grows g a b → (digest front : List ℕ) (heads : List Head)
+    → IsUnread g (disk_of a) (end_of a) digest front heads → IsUnread g (disk_of b) (end_of b) digest front heads
+unread_on g a b grows digest front heads unread h is =
+    let it = unread h is in (it.0, λ clean. leads_on g a b grows h false (it.1 (grows.spared.clean clean)))
+
 -- what was put is put
 pub puts_on : {B : Type 0} (g : Ghosts B) (a b : BodyLog B) → Grows g a b → (op : Op) (kept : Kept) (old new : List Head)
     → Puts g (disk_of a) (end_of a) old op kept new → Puts g (disk_of b) (end_of b) old op kept new
-puts_on g a b grows op New old new (none, (at, is, spelled, lies)) =
-    (none, (at, is, spelled, lies_on g a b grows at (body_of op) lies))
+puts_on g a b grows op New old new (unread, (at, is, spelled, lies)) = (
+  unread_on g a b grows (hash_of op) (front_of op) old unread,
+  (at, is, spelled, lies_on g a b grows at (body_of op) lies),
+)
 puts_on g a b grows op Known old new (there, same) =
     (λ clean. let (at, first, lies) = there (grows.spared.clean clean) in (at, first, lies_on g a b grows at (body_of op) lies), same)
 
@@ -90,42 +118,21 @@ pub heads_twice : (old mid new : List Head) (before between after : List ℕ) �
 heads_twice old mid new before between after first rest =
     record {
       heads = first.heads ++ rest.heads;
-      new_is = rest.new_is ∙ ap (λ (hs : List Head). hs ++ rest.heads) first.new_is ∙ append_assoc old first.heads rest.heads;
+      spelled = All-append IsSpelled first.heads rest.heads first.spelled rest.spelled;
+      new_is = rest.new_is ∙ ap (λ (hs : List Head). with_heads hs rest.heads) first.new_is ∙ sym (with_joined old first.heads rest.heads);
       text_is = rest.text_is ∙ ap (λ (text : List ℕ). text ++ group_text rest.heads) first.text_is
           ∙ append_assoc before (group_text first.heads) (group_text rest.heads)
           ∙ ap (λ (text : List ℕ). before ++ text) (sym (groups_joined first.heads rest.heads));
     }
 
 -- what is kept in memory, through two calls
-pub places_twice : {B : Type 0} (g : Ghosts B) (a b c : BodyLog B) (old mid new : List Head) → KeepsPlaces g a b old mid
-    → KeepsPlaces g b c mid new → KeepsPlaces g a c old new
-places_twice g a b c old mid new first rest =
+pub places_twice : {B : Type 0} (a b c : BodyLog B) (old mid new before between after : List Head)
+    → KeepsPlaces a b old mid before between → KeepsPlaces b c mid new between after → KeepsPlaces a c old new before after
+places_twice a b c old mid new before between after first rest =
     record {
-      more = first.more ++ rest.more;
-      are = rest.are ∙ ap (λ (hs : List Head). hs ++ rest.more) first.are ∙ append_assoc old first.more rest.more;
+      undone = λ heads undone. rest.undone heads (first.undone heads undone);
       below = λ low. rest.below (first.below low);
     }
-
--- nothing more is kept in memory
-pub places_stay : {B : Type 0} (g : Ghosts B) (a b : BodyLog B) (old new : List Head) → new ≡ old → end_of a ≤ end_of b
-    → KeepsPlaces g a b old new
-places_stay g a b old new same longer =
-    record {
-      more = [];
-      are = same ∙ sym (append-nil old);
-      below = λ low. All-same (IsBelow (end_of b)) new old same (below_on (end_of a) (end_of b) old longer low);
-    }
-
--- puts leave heads that are spelled
-pub spelled_all : {B : Type 0} (g : Ghosts B) (disk : B) (end : ℕ) (old new : List Head) (ops : List Op) (kepts : List Kept)
-    → PutsAll g disk end old ops kepts new → All IsSpelled old → All IsSpelled new
-spelled_all g disk end old new [] [] put all = All-same IsSpelled new old put all
-spelled_all g disk end old new [] (kept ∷ kepts) put all = absurd put
-spelled_all g disk end old new (op ∷ ops) [] put all = absurd put
-spelled_all g disk end old new (op ∷ ops) (New ∷ kepts) (mid, (none, (at, is, spelled, lies)), rest) all =
-    spelled_all g disk end mid new ops kepts rest (All-same IsSpelled mid (old ++ head_of (op, at) ∷ []) is (All-push IsSpelled old (head_of (op, at)) all spelled))
-spelled_all g disk end old new (op ∷ ops) (Known ∷ kepts) (mid, (there, same), rest) all =
-    spelled_all g disk end mid new ops kepts rest (All-same IsSpelled mid old same all)
 
 -- the same of all
 pub puts_all_on : {B : Type 0} (g : Ghosts B) (a b : BodyLog B) → Grows g a b → (ops : List Op) (kepts : List Kept) (old new : List Head)
@@ -135,6 +142,15 @@ puts_all_on g a b grows [] (kept ∷ kepts) old new put = absurd put
 puts_all_on g a b grows (op ∷ ops) [] old new put = absurd put
 puts_all_on g a b grows (op ∷ ops) (kept ∷ kepts) old new (mid, first, rest) =
     (mid, puts_on g a b grows op kept old mid first, puts_all_on g a b grows ops kepts mid new rest)
+
+-- two calls count as one
+pub rises_both : {B V : Type 0} (g : Ghosts B) (a b c : BodyLog B) (r : Result V LogFault)
+    → StaysOrRises (g.faults (disk_of a)) (g.faults (disk_of b)) → Rises g b c r → Rises g a c r
+rises_both g a b c (Ok x) first rises = rises_twice (g.faults (disk_of a)) (g.faults (disk_of b)) (g.faults (disk_of c)) first rises
+rises_both g a b c (Err e) first (failed, collides) = (
+  λ told. rose_since (g.faults (disk_of a)) (g.faults (disk_of b)) (g.faults (disk_of c)) first (failed told),
+  λ told. rises_twice (g.faults (disk_of a)) (g.faults (disk_of b)) (g.faults (disk_of c)) first (collides told),
+)
 
 -- one operation is staged before others
 pub staged_more : {B : Type 0} (g : Ghosts B) (a b : BodyLog B) → Grows g a b → (op : Op) (kept : Kept) (ops : List Op)
@@ -159,12 +175,13 @@ synced g a b spared same seen =
 -- and then all that is in the file lasts
 pub settled : {B : Type 0} (g : Ghosts B) (a b : BodyLog B) → Grows g a b → Settles g (disk_of a) (disk_of b)
     → g.seen (disk_of b) ≡ g.seen (disk_of a) → (old new : List Head) (before after : Group) (ops : List Op)
-    → before.text.items ≡ [] → before.kepts.items ≡ [] → AreStaged g a old new before after ops → AreSettled g b old new after ops
-settled g a b grows settles seen old new before after ops no_text none staged =
+    → IsBegun before → AreStaged g a old new before after ops → AreSettled g b old new after ops
+settled g a b grows settles seen old new before after ops begun staged =
     record {
-      heads = subst (λ (text : List ℕ). HasHeads old new text after.text.items) no_text staged.heads;
+      heads = subst (λ (text : List ℕ). HasHeads old new text after.text.items) begun.text staged.heads;
       put = subst (λ (ks : List Kept). PutsAll g (disk_of b) (end_of b) old ops ks new)
-          (sym (staged.told ∙ ap (λ (ks : List Kept). ks ++ staged.kepts) none)) (puts_all_on g a b grows ops staged.kepts old new staged.put);
+          (sym (staged.told ∙ ap (λ (ks : List Kept). ks ++ staged.kepts) begun.kepts))
+          (puts_all_on g a b grows ops staged.kepts old new staged.put);
       lasting = λ e held some.
           let it = held some in
           (settles e.1 (body_of e.0) (subst (λ (file : List ℕ). Holds file e.1 (body_of e.0)) seen it.0), it.1);

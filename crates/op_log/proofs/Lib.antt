@@ -9,9 +9,14 @@ pub mod Keeping
 pub mod Lists
 pub mod LoadLaws
 pub mod Lookups
+pub mod Mending
+pub mod Older
 pub mod Opening
+pub mod Parted
 pub mod Recordings
+pub mod Settling
 pub mod Spellings
+pub mod Tables
 pub mod TestedBodies
 pub mod Told
 pub mod Walks

@@ -4,7 +4,6 @@ use Rattle.std.specs.Option.{option_copied}
 use Rattle.std.proofs.lemmas.List.Elements.{All-head, All-tail}
 use Rattle.std.proofs.Common.{All, IfSome, is_some, length, get_or, ◌<◌, subst, ◌≡◌, ℕ, zero, suc, List, [], ◌∷◌, ◌++◌, Bool, true, false, cond, nat_eq}
 use Rattle.std.proofs.Common.{Option, Some, None, map, refl, sym, ◌∙◌, ap, Contains, arith, true≢false}
-use Rattle.std.proofs.lemmas.List.{map-append}
 use Rattle.std.proofs.lemmas.List.Quantifiers.{position-Some}
 use Rattle.std.specs.List.{AllByRecursion, IsDistinct, position}
 use Rattle.std.specs.Map.{keys_of, lookup}
@@ -91,11 +90,6 @@ has_digest (x ∷ heads) digest h is = by (has_digest heads digest h) (pointwise
         let it : x ≡ h = cc in
         ap (λ (y : Head). y.digest) (sym it) ∙ sym ((bytes_decides digest x.digest).0 same)
     by later false other is = later is
-
--- a table with one entry more
-pub added : (entries : List (List ℕ × Place)) (digest : List ℕ) (place : Place)
-    → map head_at (entries ++ (digest, place) ∷ []) ≡ map head_at entries ++ head_by digest place ∷ []
-added entries digest place = map-append head_at entries ((digest, place) ∷ [])
 
 -- what a table answers
 pub find_in : (r : Option (Bor Place)) (entries : List (List ℕ × Place)) (digest key : List ℕ) (heads : List Head) → key ≡ digest

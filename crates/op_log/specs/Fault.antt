@@ -51,6 +51,16 @@ IsOfRead (DamagedBody at) = ⊥
 IsOfRead Collision = ⊥
 IsOfRead Memory = Unit {0}
 
+-- what a call tells that lists what can't be read
+abbrev pub IsOfSorting : LogFault → Type 0
+IsOfSorting Disk = ⊥
+IsOfSorting Closed = Unit {0}
+IsOfSorting TooLong = ⊥
+IsOfSorting (DamagedHeads at) = ⊥
+IsOfSorting (DamagedBody at) = ⊥
+IsOfSorting Collision = ⊥
+IsOfSorting Memory = Unit {0}
+
 -- what a write of data sets or heads tells
 abbrev pub IsOfWrite : LogFault → Type 0
 IsOfWrite Disk = Unit {0}

@@ -1,10 +1,11 @@
 -- What two files keep of operations: one has their heads, in groups, and the other their data sets.
-use Rattle.std.specs.Prelude.{◌≡◌, ◌+◌, ◌≤◌, ◌<◌, ℕ, List, [], ◌∷◌, length, map, All, Option, Some, None}
+use Rattle.std.specs.Prelude.{◌≡◌, ◌+◌, ◌≤◌, ◌<◌, ℕ, List, [], ◌∷◌, ◌++◌, length, map, All, Option, Some, None}
 use Rattle.std.specs.Prelude.{if◌then◌else◌, nat_eq, Contains}
 use Rattle.std.specs.Cmp.Lexicographic.{pointwise}
 use Rattle.sqlite_disk.specs.Disk.{Holds}
 use Rattle.sqlite_disk.specs.declared.Disk.{Ghosts}
 use Rattle.body_log.specs.Lasts.{Lasts}
+use Rattle.head_log.specs.declared.gate.Gate.{Gate}
 use Rattle.head_log.specs.Groups.{IsReady, joined}
 use Rattle.head_log.specs.Groups.{StandsFor as HasGroups}
 use Rattle.operation.specs.declared.op.Op.{Op}
@@ -16,23 +17,45 @@ abbrev pub first_under : List ℕ → List Head → Option Head
 first_under digest [] = None
 first_under digest (h ∷ heads) = if pointwise nat_eq digest h.digest then Some h else first_under digest heads
 
+-- one head more: in the place of the first with its digest, or else behind the others
+abbrev pub with_head : List Head → Head → List Head
+with_head [] h = h ∷ []
+with_head (k ∷ heads) h = if pointwise nat_eq h.digest k.digest then h ∷ heads else k ∷ with_head heads h
+
+-- several more, one after another
+abbrev pub with_heads : List Head → List Head → List Head
+with_heads heads [] = heads
+with_heads heads (h ∷ more) = with_heads (with_head heads h) more
+
+-- of heads with one digest the last counts, and it stands where the first does
+abbrev pub settled : List Head → List Head
+settled heads = with_heads [] heads
+
 -- no two of some heads have one digest: each is the first with its own
 abbrev pub HaveOwnDigests : List Head → Type 0
 HaveOwnDigests heads = (h : Head) → Contains heads h → first_under h.digest heads ≡ Some h
 
--- a file of groups stands for these heads, in this order
+-- no two of those that settled have one digest
+abbrev pub SettledHaveOwn : Type 0
+SettledHaveOwn = (heads : List Head) → HaveOwnDigests (settled heads)
+
+-- and the last of some heads is the one that counts under its digest
+abbrev pub LastCounts : Type 0
+LastCounts = (heads : List Head) (h : Head) → first_under h.digest (settled (heads ++ h ∷ [])) ≡ Some h
+
+-- A file of groups stands for these heads, in this order: what was put again is of the head that came last.
 pub record StandsFor (file : List ℕ) (heads : List Head) : Type 0 where
   pub groups : List (List Head)
-  pub are : joined groups ≡ heads
+  pub are : settled (joined groups) ≡ heads
   pub laid : HasGroups file (map group_text groups)
-  pub spelled : All IsSpelled heads
+  pub spelled : All IsSpelled (joined groups)
 
 -- and so does whatever a crash leaves of it
-pub record IsKept {H : Type 0} (g : Ghosts H) (disk : H) (end : ℕ) (heads : List Head) : Type 0 where
+pub record IsKept {H : Type 0} (g : Ghosts H) (disk : H) (end : Gate) (heads : List Head) : Type 0 where
   pub groups : List (List Head)
-  pub are : joined groups ≡ heads
+  pub are : settled (joined groups) ≡ heads
   pub ready : IsReady g disk end (map group_text groups)
-  pub spelled : All IsSpelled heads
+  pub spelled : All IsSpelled (joined groups)
 
 -- A file stands for the heads that it stood for, and what a crash leaves of it for those that some crash could leave
 -- before.

@@ -9,8 +9,10 @@ pub mod Loads
 pub mod Log
 pub mod Places
 pub mod Puts
+pub mod Readable
 pub mod Recorded
 pub mod Records
+pub mod Renewing
 pub mod Spelled
 pub mod Staged
 pub mod Told

@@ -6,9 +6,10 @@ use Rattle.sqlite_disk.specs.declared.Disk.{Ghosts}
 use Rattle.body_log.specs.declared.log.BodyLog.{BodyLog}
 use Rattle.body_log.specs.Lasts.{Spares}
 use Rattle.body_log.specs.Log.{disk_of, end_of}
+use Rattle.head_log.specs.declared.gate.Gate.{Gate}
 use Rattle.head_log.specs.declared.log.HeadLog.{HeadLog}
-use Rattle.head_log.specs.Log.{is_up}
-use Rattle.head_log.specs.Log.{disk_of as heads_of, end_of as heads_end}
+use Rattle.head_log.specs.Log.{gate_code, is_up}
+use Rattle.head_log.specs.Log.{disk_of as heads_of, gate_of as heads_end}
 use Rattle.op_log.specs.declared.refused.Refused.{Refused}
 use Rattle.op_log.specs.Heads.{Head, bodies_long, head_code, heads_long}
 use Rattle.op_log.specs.Kept.{IsBelow, IsKept}
@@ -17,7 +18,7 @@ use Rattle.operation.specs.declared.op.Op.{Op}
 -- the two files and where each ends, whether operations can be put, and the heads, in order
 pub record Opened (H B : Type 0) : Type 0 where
   pub heads : H
-  pub heads_end : ℕ
+  pub heads_end : Gate
   pub bodies : B
   pub bodies_end : ℕ
   pub is_open : Bool
@@ -26,8 +27,8 @@ pub record Opened (H B : Type 0) : Type 0 where
 -- it is stored as its parts
 abbrev pub opened_code : {H B : Type 0} → Coded H → Coded B → Coded (Opened H B)
 opened_code {H} {B} heads bodies =
-    code_by (H × (ℕ × (B × (ℕ × (Bool × List Head)))))
-    (coded× heads (coded× coded_ℕ (coded× bodies (coded× coded_ℕ (coded× coded_bool (coded_list head_code))))))
+    code_by (H × (Gate × (B × (ℕ × (Bool × List Head)))))
+    (coded× heads (coded× gate_code (coded× bodies (coded× coded_ℕ (coded× coded_bool (coded_list head_code))))))
     (λ o. (o.heads, (o.heads_end, (o.bodies, (o.bodies_end, (o.is_open, o.places))))))
     (λ p. record {
       heads = p.0;
@@ -71,7 +72,7 @@ opened gh gb heads bodies places = record {
 abbrev pub IsTooLong : {H B : Type 0} → Opened H B → List Op → Type 0
 IsTooLong log ops =
     (1024 < length ops)
-    ⊎ ((2 ^ 40 ≤ heads_long ops) ⊎ ((2 ^ 60 < log.heads_end) ⊎ (2 ^ 64 ≤ log.bodies_end + bodies_long ops)))
+    ⊎ ((2 ^ 40 ≤ heads_long ops) ⊎ ((2 ^ 60 < log.heads_end.at) ⊎ (2 ^ 64 ≤ log.bodies_end + bodies_long ops)))
 
 -- what holds through a call: what holds of a log, and nothing is written over
 pub record GoesOn {H B : Type 0} (gh : Ghosts H) (gb : Ghosts B) (old new : Opened H B) : Type 0 where

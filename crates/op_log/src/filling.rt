@@ -4,9 +4,9 @@ ghost use Rattle.std.specs.Prelude.{◌≡◌, ◌≢◌, ◌++◌, ◌+◌, ◌
 ghost use Rattle.std.specs.Prelude.{IfSome, IsErrOf, IsTrue, OnOk, ◌↔◌, ◌∷◌};
 ghost use Rattle.op_log.specs.Records.{head_in};
 ghost use Rattle.op_log.specs.Fault.{IsOfFill};
-ghost use Rattle.op_log.specs.Filling.{AreFit, AreTaken, IsFit, IsTaken};
+ghost use Rattle.op_log.specs.Filling.{AreFit, AreTaken, IsAlike, IsFit, IsTaken};
 ghost use Rattle.op_log.specs.Heads.{Head, IsSpelled, group_text, head_text};
-ghost use Rattle.op_log.specs.Kept.{IsBelow, first_under};
+ghost use Rattle.op_log.specs.Kept.{IsBelow};
 
 use crate::cut::first_head;
 use crate::fault::LogFault;
@@ -16,13 +16,24 @@ use crate::record::Record;
 use octets::Octets;
 use std::alloc::AllocError;
 
-/// Whether a head can be taken: its data set lies below an offset, and no other has its digest.
+/// Whether what has the digest of a head, if something has, has its front.
+fn is_alike(places: &Places, head: &Record<'_>) -> bool
+    ensures { IsTrue result ↔ IsAlike places.now (head_in head.now) }
+{
+    match places.find(&head.digest) {
+        Some(place) => place.front.as_slice() == head.front,
+        None => true,
+    }
+}
+
+/// Whether a head can be taken: its data set lies below an offset, and what has its digest has its
+/// front. So an operation that was put again has the head that came last.
 fn is_fit(places: &Places, head: &Record<'_>, end: usize) -> bool
     ensures fit { IsTrue result ↔ (IsBelow end (head_in head.now)
-        × (first_under head.now.digest places.now ≡ None)) }
+        × IsAlike places.now (head_in head.now)) }
 {
     match head.at.checked_add(head.size) {
-        Some(behind) => behind <= end && places.find(&head.digest).is_none(),
+        Some(behind) => behind <= end && is_alike(places, head),
         None => false,
     }
 }
@@ -51,7 +62,7 @@ fn take_first<'a>(
         at: head.at,
         size: head.size,
     };
-    places.add(&head.digest, place)?;
+    places.put(&head.digest, place)?;
     Ok(Some(rest))
 }
 

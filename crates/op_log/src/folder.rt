@@ -14,6 +14,7 @@ ghost use Rattle.sqlite_std_file.specs.File.{file_is_usable, IsFresh};
 use crate::folder_fault::FolderFault;
 use crate::folder_refused::FolderRefused;
 use crate::log::OpLog;
+use crate::older_folder::renew_folder;
 use crate::refused::Refused;
 use sqlite_disk::Files;
 use sqlite_std_file::{FileFrom, Start, Wary, open};
@@ -27,6 +28,17 @@ pub type FolderFile = FileFrom<Wary>;
 /// A log in a folder, of which nothing is supposed.
 pub type FolderLog = OpLog<FolderFile, FolderFile>;
 
+/// A log in a folder that was opened, and whether its heads were of the older form until then. A
+/// whole group may have stood behind the gate at which they ended, which does not count: it was
+/// being added when the archive was stopped, or its gate was changed. Then the older file is kept
+/// beside the new one, under its name with `.older` behind it.
+#[derive(Drop)]
+pub struct OpenedFolder {
+    pub log: FolderLog,
+    pub is_renewed: bool,
+    pub hid_a_group: bool,
+}
+
 /// Makes the folder if it is not there. Afterwards its name is on the disk.
 fn make_folder(rt: &HostRuntime, folder: &str) -> io::Result<()> {
     match fs::create_dir(rt, folder) {
@@ -38,8 +50,24 @@ fn make_folder(rt: &HostRuntime, folder: &str) -> io::Result<()> {
     File::open(rt, above.as_str())?.sync_all()
 }
 
-/// The file of a name in a folder. It is made if it is not there, and locked until it is dropped.
-fn file_in<S: Start>(
+/// The file at a path. It is made if it is not there, and locked until it is dropped. The port
+/// syncs the folder that it is in, before anything is written.
+pub(crate) fn file_at<S: Start>(
+    rt: &HostRuntime,
+    path: &str,
+    start: S,
+) -> Result<FileFrom<S>, FolderFault>
+    ensures usable { IfOk result (λ file. IsTrue (file_is_usable S.Start file)) }
+    ensures fresh { IfOk result (IsFresh false) }
+    ensures fault { IfErr result IsNoLog }
+{
+    let files = open(rt, path, start)?;
+    let Files { log: _, db } = files;
+    Ok(db)
+}
+
+/// The file of a name in a folder, likewise.
+pub(crate) fn file_in<S: Start>(
     rt: &HostRuntime,
     folder: &str,
     name: &str,
@@ -50,9 +78,7 @@ fn file_in<S: Start>(
     ensures fault { IfErr result IsNoLog }
 {
     let path = format!(in rt.alloc(); "{folder}/{name}")?;
-    let files = open(rt, path.as_str(), start)?;
-    let Files { log: _, db } = files;
-    Ok(db)
+    file_at(rt, path.as_str(), start)
 }
 
 /// The files of a folder, which is made if it is not there.
@@ -117,12 +143,18 @@ pub fn log_in<H: Start, B: Start>(
 }
 
 /// Opens the log in a folder, of which nothing is supposed. The folder and its files are made where
-/// they are not there. It is `Busy` while another program, or this one, has them open.
-pub fn open_folder(rt: &HostRuntime, folder: &str) -> Result<FolderLog, FolderFault>
-    ensures open { IfOk result (λ log. IsTrue log.is_open) }
+/// they are not there, and those of the older form are renewed: where one of these is refused, it
+/// stays as it is. It is `Busy` while another program, or this one, has them open.
+pub fn open_folder(rt: &HostRuntime, folder: &str) -> Result<OpenedFolder, FolderFault>
+    ensures open { IfOk result (λ opened. IsTrue opened.log.is_open) }
 {
+    let older = renew_folder(rt, folder)?;
     match log_in(rt, folder, Wary, Wary) {
-        Ok(log) => Ok(log),
+        Ok(log) => Ok(OpenedFolder {
+            log,
+            is_renewed: older.is_some(),
+            hid_a_group: matches!(older, Some((_, true))),
+        }),
         Err(refused) => Err(refused.fault),
     }
 }

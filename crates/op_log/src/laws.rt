@@ -1,5 +1,7 @@
 //! What follows from the definitions, for those who stand on them.
 
+ghost use Rattle.op_log.specs.Kept.{LastCounts, SettledHaveOwn};
+ghost use Rattle.op_log.specs.Readable.{AllIsReadable, EachIsParted, ListedAreAmiss};
 ghost use Rattle.op_log.specs.Told.{OwnTellTrue, RecordsTellTrue, ToldStands};
 
 /// Where each told content stands for that operation of a log that has its digest, if one has,
@@ -10,4 +12,20 @@ pub fn what_is_told_truly_stands()
     ensures stands { ToldStands }
     ensures own { OwnTellTrue }
     ensures records { RecordsTellTrue }
+{}
+
+/// Of what can't be read of a log each is damaged, or the disk failed to read: where the file has
+/// the operation of each head, and the disk failed at none, nothing is listed. And each head has
+/// either its record or its index, as `OpLog::readable` tells them.
+pub fn what_is_whole_is_readable()
+    ensures readable { AllIsReadable }
+    ensures each { EachIsParted }
+    ensures amiss { ListedAreAmiss }
+{}
+
+/// A file may have several heads of one digest, where an operation that could not be read was put
+/// again: the last of them counts, and it alone.
+pub fn the_last_head_of_a_digest_counts()
+    ensures own { SettledHaveOwn }
+    ensures last { LastCounts }
 {}

@@ -188,6 +188,8 @@ pub(crate) fn read_at<B: Disk>(
         → HasBody (B.Disk.seen (disk_of bodies.old)) (op, place.now.at)
         → (n : ℕ) → ¬ IsErrOf result (LogFault.DamagedBody n) }
     ensures place { (n : ℕ) → IsErrOf result (LogFault.DamagedBody n) → n ≡ place.now.at }
+    ensures calm { (n : ℕ) → IsErrOf result (LogFault.DamagedBody n)
+        → B.Disk.faults (disk_of bodies.new) ≡ B.Disk.faults (disk_of bodies.old) }
     ensures disk { Counts B.Disk (place.now.at + place.now.size) bodies.old bodies.new result }
     ensures only { IfErr result IsOfLook }
     ensures seen { B.Disk.seen (disk_of bodies.new) ≡ B.Disk.seen (disk_of bodies.old) }
@@ -225,6 +227,8 @@ pub(crate) fn load_at<B: Disk>(
         → HasBody (B.Disk.seen (disk_of bodies.old)) (op, place.now.at)
         → (n : ℕ) → ¬ IsErrOf result (LogFault.DamagedBody n) }
     ensures place { (n : ℕ) → IsErrOf result (LogFault.DamagedBody n) → n ≡ place.now.at }
+    ensures calm { (n : ℕ) → IsErrOf result (LogFault.DamagedBody n)
+        → B.Disk.faults (disk_of bodies.new) ≡ B.Disk.faults (disk_of bodies.old) }
     ensures disk { Counts B.Disk (place.now.at + place.now.size) bodies.old bodies.new result }
     ensures only { IfErr result IsOfLook }
     ensures seen { B.Disk.seen (disk_of bodies.new) ≡ B.Disk.seen (disk_of bodies.old) }

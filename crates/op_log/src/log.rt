@@ -22,6 +22,7 @@ ghost use Rattle.op_log.specs.Verified.{damaged_in, digests_of, is_whole as is_w
 ghost use Rattle.op_log.specs.Walking.{AreOfLog};
 
 use crate::fault::LogFault;
+use crate::group::Group;
 use crate::kept::Kept;
 use crate::listing::all_ops;
 use crate::loading::{load_at, read_at};
@@ -41,6 +42,8 @@ use sqlite_disk::Disk;
 use std::alloc::Global;
 use std::marker::Model;
 use std::thread::Threads;
+
+mod sorting;
 
 /// The most operations of a group.
 const MOST_OF_A_GROUP: usize = 1024;
@@ -113,7 +116,7 @@ impl<H: Disk + Drop, B: Disk + Drop> OpLog<H, B> {
             ⊎ MoreFaults (B.Disk.faults bodies) (B.Disk.faults refused.bodies)) }
         // No memory is asked for where the file has no group.
         ensures memory { IfErr result (λ refused. refused.fault ≡ LogFault.Memory
-            → IsTrue (H.Disk.is_clean refused.heads) → 1 < length (H.Disk.seen heads)) }
+            → IsTrue (H.Disk.is_clean refused.heads) → 8 < length (H.Disk.seen heads)) }
         ensures only { IfErr result (λ refused. IsOfOpen refused.fault) }
     {
         let mut heads = match HeadLog::over(alloc, heads) {
@@ -189,7 +192,8 @@ impl<H: Disk, B: Disk> OpLog<H, B> {
     }
 
     /// Puts operations one after another, all or none, and tells of each whether it was there. What
-    /// is there is not written again.
+    /// is there is not written again. Where bytes that are none of its digest lie in its place, it
+    /// was not there to be read: it is put anew behind the others, and is read there from then on.
     pub fn put_many(&mut self, ops: &[Digested]) -> Result<Vec<Kept>, LogFault>
         // Each is put in its turn, and after Ok lasts; a refusal forgets all.
         ensures put { IfOk result (λ kepts. PutsAll B.Disk self.new.bodies self.new.bodies_end
@@ -212,7 +216,8 @@ impl<H: Disk, B: Disk> OpLog<H, B> {
             → MoreFaults (H.Disk.faults self.old.heads) (H.Disk.faults self.new.heads)
             ⊎ MoreFaults (B.Disk.faults self.old.bodies) (B.Disk.faults self.new.bodies) }
         ensures collision { IsErrOf result LogFault.Collision → ComesToClash B.Disk self.new.bodies
-            self.new.bodies_end self.old.places ops.now }
+            self.new.bodies_end
+            self.old.places ops.now }
         ensures only { IfErr result IsOfPut }
     {
         if !self.is_open() {
@@ -222,10 +227,17 @@ impl<H: Disk, B: Disk> OpLog<H, B> {
             return Err(LogFault::TooLong);
         }
         let before = self.places.len();
-        match put_group(&mut self.heads, &mut self.bodies, &mut self.places, ops) {
-            Ok(kepts) => Ok(kepts),
+        let mut group = Group::new(self.places.alloc());
+        match put_group(
+            &mut self.heads,
+            &mut self.bodies,
+            &mut self.places,
+            &mut group,
+            ops,
+        ) {
+            Ok(()) => Ok(group.kepts),
             Err(fault) => {
-                self.places.truncate(before);
+                self.places.restore(before, group.replaced);
                 Err(fault)
             }
         }

@@ -1,9 +1,10 @@
 //! The places of operations, in memory, each under its digest.
 
-ghost use Rattle.std.specs.Prelude.{◌≡◌, ◌++◌, ◌∷◌, [], None, Some, ◌≤◌, ◌<◌, take, length, slice_get, IfSome, OnOk, OnErr};
-ghost use Rattle.std.specs.Option.{option_map};
-ghost use Rattle.op_log.specs.Kept.{HaveOwnDigests, first_under};
-ghost use Rattle.op_log.specs.Places.{HasDigestAt, head_by};
+ghost use Rattle.std.specs.Prelude.{◌≡◌, ◌≢◌, [], None, Some, ◌≤◌, ◌<◌, List, take, map, length, slice_get, IfSome, OnOk, OnErr};
+ghost use Rattle.op_log.specs.Heads.{Head};
+ghost use Rattle.op_log.specs.Kept.{HaveOwnDigests, first_under, with_head};
+ghost use Rattle.op_log.specs.Places.{HasDigestAt, head_at, head_by};
+ghost use Rattle.op_log.specs.Staged.{AreThere, IsUndone};
 
 use crate::place::Place;
 use indexmap::IndexMap;
@@ -93,20 +94,45 @@ impl Places {
         self.table.get_index(index)
     }
 
-    /// Adds a place under a digest that has none.
-    pub(crate) fn add(&mut self, digest: &Digest, place: Place) -> Result<(), AllocError>
-        requires { first_under digest.now self.old ≡ None }
-        ensures added { OnOk result (self.new ≡ self.old ++ head_by digest.now place ∷ []) }
+    /// Adds a place under a digest, in the place of the one that is there, or else behind the others.
+    pub(crate) fn put(&mut self, digest: &Digest, place: Place) -> Result<(), AllocError>
+        ensures put { OnOk result (self.new ≡ with_head self.old (head_by digest.now place)) }
         ensures refused { OnErr result (self.new ≡ self.old) }
     {
         self.table.insert(*digest.as_bytes(), place)?;
         Ok(())
     }
 
+    /// The same under a digest that has a place. This takes no memory.
+    fn put_back(&mut self, kept: (Digest, Place))
+        requires { first_under kept.0 self.old ≢ None }
+        ensures { self.new ≡ with_head self.old (head_at kept) }
+    {
+        let (digest, place) = kept;
+        match self.table.insert(*digest.as_bytes(), place) {
+            Ok(_replaced) => {}
+            Err(_refused) => unreachable!(),
+        }
+    }
+
     /// Forgets all behind the first ones. This takes no memory.
-    pub(crate) fn truncate(&mut self, len: usize)
+    fn truncate(&mut self, len: usize)
         ensures { self.new ≡ take len self.old }
     {
         self.table.truncate(len);
+    }
+
+    /// Puts back what was replaced, the last first, and forgets all behind the first ones. This
+    /// takes no memory.
+    pub(crate) fn restore(&mut self, len: usize, replaced: Vec<(Digest, Place)>)
+        requires { AreThere self.old (map head_at replaced.items) }
+        ensures { (first : List Head) → len ≡ length first
+            → IsUndone first self.old (map head_at replaced.items) → self.new ≡ first }
+    {
+        let mut left = replaced;
+        'replaced: while let Some(last) = left.pop() {
+            self.put_back(last);
+        }
+        self.truncate(len);
     }
 }

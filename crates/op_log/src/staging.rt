@@ -1,23 +1,23 @@
 //! Writes the data sets of operations, and gathers their heads.
 
-ghost use Rattle.std.specs.Prelude.{◌≡◌, ◌++◌, ◌∷◌, [], ◌<◌, ◌≤◌, ◌+◌, ◌^◌, None, OnOk, IfOk, IfErr, OnErr, IsErrOf};
+ghost use Rattle.std.specs.Prelude.{◌≡◌, ◌++◌, ◌<◌, ◌≤◌, ◌+◌, ◌^◌, OnOk, IfOk, IfErr, OnErr, IsErrOf};
 ghost use Rattle.std.specs.Prelude.{All, List, false, length, IsTrue};
 ghost use Rattle.sqlite_disk.specs.Disk.{Holds};
 ghost use Rattle.body_log.specs.Log.{disk_of, end_of};
 ghost use Rattle.op_log.specs.Fault.{IsOfPut, IsOfWrite};
-ghost use Rattle.op_log.specs.Heads.{Head, IsSpelled, bodies_long, body_of, front_of, group_text, head_text};
+ghost use Rattle.op_log.specs.Heads.{Head, IsSpelled, bodies_long, body_of, front_of, head_text};
 ghost use Rattle.op_log.specs.Heads.{heads_long};
-ghost use Rattle.op_log.specs.Kept.{IsBelow, first_under};
+ghost use Rattle.op_log.specs.Kept.{IsBelow, with_head};
 ghost use Rattle.op_log.specs.Puts.{Clashes, ClashesParts, ComesToClash, Puts};
 ghost use Rattle.op_log.specs.Spelled.{head_spelled};
-ghost use Rattle.op_log.specs.Staged.{AreSettled, AreStaged, Counts, Grows, HasHeads, IsStaged, IsWithin};
-ghost use Rattle.op_log.specs.Staged.{KeepsPlaces, Uses};
+ghost use Rattle.op_log.specs.Staged.{AreSettled, AreStaged, Counts, Grows, HasHeads, IsBegun, IsStaged};
+ghost use Rattle.op_log.specs.Staged.{IsUndone, IsWithin, KeepsPlaces, Reaches, Rises, Uses, replaced_in};
 
 use crate::fault::LogFault;
+use crate::finding::{Found, found_under};
 use crate::group::Group;
 use crate::head::{Spelled, put_head, size_of};
 use crate::kept::Kept;
-use crate::loading::lies_at;
 use crate::place::Place;
 use crate::places::Places;
 use body_log::BodyLog;
@@ -43,17 +43,17 @@ fn add_body<B: Disk>(bodies: &mut BodyLog<B>, body: &[u8]) -> Result<usize, LogF
     Ok(bodies.add(body)?)
 }
 
-/// Adds the data set of an operation whose digest has no head, and its head behind others.
+/// Adds the data set of an operation that can't be read, and its head, in the place of the one that
+/// has its digest.
 fn add_new<B: Disk>(
     bodies: &mut BodyLog<B>,
     places: &mut Places,
     group: &mut Group,
     spelled: &Spelled<'_>,
 ) -> Result<(), LogFault>
-    requires other { first_under spelled.now.digest.now places.old ≡ None }
     requires digest { length spelled.now.digest.now ≡ 32 }
     ensures added { OnOk result (places.new
-        ≡ places.old ++ head_spelled spelled.now (end_of bodies.old) ∷ []) }
+        ≡ with_head places.old (head_spelled spelled.now (end_of bodies.old))) }
     ensures text { OnOk result (group.new.text.items
         ≡ group.old.text.items ++ head_text (head_spelled spelled.now (end_of bodies.old))) }
     ensures held { OnOk result (0 < length spelled.now.body.now
@@ -62,6 +62,8 @@ fn add_new<B: Disk>(
         ≤ end_of bodies.new) }
     ensures lawful { OnOk result (IsSpelled (head_spelled spelled.now (end_of bodies.old))) }
     ensures refused { OnErr result (places.new ≡ places.old) }
+    ensures undone { (first : List Head) → IsUndone first places.old (replaced_in group.old)
+        → IsUndone first places.new (replaced_in group.new) }
     ensures within { IsWithin bodies.old bodies.new (length spelled.now.body.now) result }
     ensures kepts { group.new.kepts.items ≡ group.old.kepts.items }
     ensures grows { Grows B.Disk bodies.old bodies.new }
@@ -76,11 +78,13 @@ fn add_new<B: Disk>(
         at,
         size: spelled.body.len(),
     };
-    places.add(spelled.digest, place)?;
+    group.keep(places, spelled.digest)?;
+    places.put(spelled.digest, place)?;
     Ok(())
 }
 
-/// Finds the operation of these parts, or adds it.
+/// Finds the operation of these parts, or adds it: also where its digest has a place, but what lies
+/// there can't be read.
 #[tactic(auto, using(crate::proofs::Faults::read_is_put, crate::proofs::Faults::write_is_put))]
 fn stage_parts<B: Disk>(
     bodies: &mut BodyLog<B>,
@@ -89,6 +93,7 @@ fn stage_parts<B: Disk>(
     spelled: &Spelled<'_>,
 ) -> Result<Kept, LogFault>
     requires below { All (IsBelow (end_of bodies.old)) places.old }
+    requires reach { Reaches B.Disk bodies.old (end_of bodies.old) }
     requires digest { length spelled.now.digest.now ≡ 32 }
     ensures staged { IfOk result (λ kept. IsStaged B.Disk bodies.new spelled.now kept
         places.old places.new) }
@@ -97,24 +102,25 @@ fn stage_parts<B: Disk>(
     ensures long { OnOk result (length group.new.text.items
         ≤ length group.old.text.items + (length spelled.now.front.now + 56)) }
     ensures within { IsWithin bodies.old bodies.new (length spelled.now.body.now) result }
-    ensures places { KeepsPlaces B.Disk bodies.old bodies.new places.old places.new }
+    ensures places { KeepsPlaces bodies.old bodies.new places.old places.new
+        (replaced_in group.old) (replaced_in group.new) }
     ensures kepts { group.new.kepts.items ≡ group.old.kepts.items }
     ensures grows { Grows B.Disk bodies.old bodies.new }
     ensures uses { Uses B.Disk bodies.old bodies.new result }
-    ensures disk { Counts B.Disk (end_of bodies.old) bodies.old bodies.new result }
+    ensures rises { Rises B.Disk bodies.old bodies.new result }
     ensures collision { IsErrOf result LogFault.Collision → ClashesParts B.Disk (disk_of bodies.new)
         (end_of bodies.new) spelled.now.digest.now spelled.now.front.now spelled.now.body.now
         places.old }
     ensures only { IfErr result IsOfPut }
 {
-    let Some(place) = places.find(spelled.digest) else {
-        add_new(bodies, places, group, spelled)?;
-        return Ok(Kept::New);
-    };
-    if !lies_at(group.alloc, bodies, place, spelled)? {
-        return Err(LogFault::Collision);
+    match found_under(group.alloc, bodies, places, spelled)? {
+        Found::These => Ok(Kept::Known),
+        Found::Others => Err(LogFault::Collision),
+        Found::Unreadable => {
+            add_new(bodies, places, group, spelled)?;
+            Ok(Kept::New)
+        }
     }
-    Ok(Kept::Known)
 }
 
 /// Finds an operation, or adds it.
@@ -126,6 +132,7 @@ fn stage_one<B: Disk>(
     op: &Digested,
 ) -> Result<Kept, LogFault>
     requires below { All (IsBelow (end_of bodies.old)) places.old }
+    requires reach { Reaches B.Disk bodies.old (end_of bodies.old) }
     ensures put { IfOk result (λ kept. Puts B.Disk (disk_of bodies.new) (end_of bodies.new)
         places.old op.now kept places.new) }
     ensures text { OnOk result (HasHeads places.old places.new group.old.text.items
@@ -133,11 +140,12 @@ fn stage_one<B: Disk>(
     ensures long { OnOk result (length group.new.text.items
         ≤ length group.old.text.items + (length (front_of op.now) + 56)) }
     ensures within { IsWithin bodies.old bodies.new (length (body_of op.now)) result }
-    ensures places { KeepsPlaces B.Disk bodies.old bodies.new places.old places.new }
+    ensures places { KeepsPlaces bodies.old bodies.new places.old places.new
+        (replaced_in group.old) (replaced_in group.new) }
     ensures kepts { group.new.kepts.items ≡ group.old.kepts.items }
     ensures grows { Grows B.Disk bodies.old bodies.new }
     ensures uses { Uses B.Disk bodies.old bodies.new result }
-    ensures disk { Counts B.Disk (end_of bodies.old) bodies.old bodies.new result }
+    ensures rises { Rises B.Disk bodies.old bodies.new result }
     ensures collision { IsErrOf result LogFault.Collision → Clashes B.Disk (disk_of bodies.new)
         (end_of bodies.new) op.now places.old }
     ensures only { IfErr result IsOfPut }
@@ -161,15 +169,17 @@ fn stage_each<B: Disk>(
     ops: &[Digested],
 ) -> Result<(), LogFault>
     requires below { All (IsBelow (end_of bodies.old)) places.old }
+    requires reach { Reaches B.Disk bodies.old (end_of bodies.old) }
     ensures staged { OnOk result (AreStaged B.Disk bodies.new places.old places.new
         group.old group.new ops.now) }
     ensures long { OnOk result (length group.new.text.items
         ≤ length group.old.text.items + heads_long ops.now) }
     ensures within { IsWithin bodies.old bodies.new (bodies_long ops.now) result }
-    ensures places { KeepsPlaces B.Disk bodies.old bodies.new places.old places.new }
+    ensures places { KeepsPlaces bodies.old bodies.new places.old places.new
+        (replaced_in group.old) (replaced_in group.new) }
     ensures grows { Grows B.Disk bodies.old bodies.new }
     ensures uses { Uses B.Disk bodies.old bodies.new result }
-    ensures disk { Counts B.Disk (end_of bodies.old) bodies.old bodies.new result }
+    ensures rises { Rises B.Disk bodies.old bodies.new result }
     ensures collision { IsErrOf result LogFault.Collision → ComesToClash B.Disk (disk_of bodies.new)
         (end_of bodies.new) places.old ops.now }
     ensures only { IfErr result IsOfPut }
@@ -184,35 +194,33 @@ fn stage_each<B: Disk>(
     }
 }
 
-/// Writes and syncs the data sets of what is new among some operations, and answers their heads.
+/// Writes and syncs the data sets of what is new among some operations, and gathers their heads.
 pub(crate) fn stage<B: Disk>(
     bodies: &mut BodyLog<B>,
     places: &mut Places,
+    group: &mut Group,
     ops: &[Digested],
-) -> Result<Group, LogFault>
+) -> Result<(), LogFault>
     requires below { All (IsBelow (end_of bodies.old)) places.old }
-    ensures settled { IfOk result (λ group. AreSettled B.Disk bodies.new places.old places.new
-        group ops.now) }
-    ensures long { IfOk result (λ group. length group.text.items ≤ heads_long ops.now) }
+    requires reach { Reaches B.Disk bodies.old (end_of bodies.old) }
+    requires begun { IsBegun group.old }
+    ensures settled { OnOk result (AreSettled B.Disk bodies.new places.old places.new
+        group.new ops.now) }
+    ensures long { OnOk result (length group.new.text.items ≤ heads_long ops.now) }
     ensures too_long { IsErrOf result LogFault.TooLong
         → 2 ^ 64 ≤ end_of bodies.old + bodies_long ops.now }
-    ensures places { KeepsPlaces B.Disk bodies.old bodies.new places.old places.new }
+    ensures places { KeepsPlaces bodies.old bodies.new places.old places.new
+        (replaced_in group.old) (replaced_in group.new) }
     ensures grows { Grows B.Disk bodies.old bodies.new }
     ensures closed { IsErrOf result LogFault.Closed
         → B.Disk.is_usable (disk_of bodies.old) ≡ false }
-    ensures disk { Counts B.Disk (end_of bodies.old) bodies.old bodies.new result }
+    ensures rises { Rises B.Disk bodies.old bodies.new result }
     ensures collision { IsErrOf result LogFault.Collision → ComesToClash B.Disk (disk_of bodies.new)
         (end_of bodies.new) places.old ops.now }
     ensures only { IfErr result IsOfPut }
     ensures usable { OnOk result (IsTrue (B.Disk.is_usable (disk_of bodies.new))) }
 {
-    let alloc = places.alloc();
-    let mut group = Group {
-        text: Vec::new(alloc),
-        kepts: Vec::new(alloc),
-        alloc,
-    };
-    stage_each(bodies, places, &mut group, ops)?;
+    stage_each(bodies, places, group, ops)?;
     bodies.settle()?;
-    Ok(group)
+    Ok(())
 }

@@ -6,7 +6,7 @@ ghost use Rattle.sha2.specs.Sha256.{sha256};
 ghost use Rattle.op_log.specs.Fault.{IsOfRead};
 ghost use Rattle.op_log.specs.Kept.{IsBelow};
 ghost use Rattle.op_log.specs.Places.{head_by};
-ghost use Rattle.op_log.specs.Staged.{Counts, Grows, Uses};
+ghost use Rattle.op_log.specs.Staged.{Counts, Grows, HasBytes, Uses};
 ghost use Rattle.op_log.specs.Verified.{damaged_in, digests_of, is_whole};
 
 use crate::fault::LogFault;
@@ -38,9 +38,12 @@ pub(crate) fn is_whole<B: Disk>(
 ) -> Result<bool, LogFault>
     ensures exact { IfOk result (λ whole. IsTrue (B.Disk.is_clean (disk_of bodies.new))
         → whole ≡ is_whole (B.Disk.seen (disk_of bodies.old)) (head_by digest.now place.now)) }
+    ensures bytes { IfOk result (λ whole. IsTrue (B.Disk.is_clean (disk_of bodies.new))
+        → HasBytes (B.Disk.seen (disk_of bodies.old)) (head_by digest.now place.now) whole) }
     ensures disk { Counts B.Disk (place.now.at + place.now.size) bodies.old bodies.new result }
     ensures only { IfErr result IsOfRead }
     ensures seen { B.Disk.seen (disk_of bodies.new) ≡ B.Disk.seen (disk_of bodies.old) }
+    ensures end { end_of bodies.new ≡ end_of bodies.old }
     ensures grows { Grows B.Disk bodies.old bodies.new }
     ensures uses { Uses B.Disk bodies.old bodies.new result }
 {

@@ -1,6 +1,6 @@
 -- What the statements write.
-use Rattle.std.proofs.Common.{append-nil, ◌≡◌, ◌⊎◌, ◌||◌, ◌&&◌, inl, inr, ℕ, ℤ, pos, List, [], ◌∷◌, Bool}
-use Rattle.std.proofs.Common.{true, false, not, cond, None, Ok, Err, Result, OnOk, IsPermutation, Ordering}
+use Rattle.std.proofs.Common.{◌≡◌, ◌⊎◌, ◌||◌, ◌&&◌, inl, inr, ℕ, ℤ, pos, List, [], ◌∷◌, Bool}
+use Rattle.std.proofs.Common.{true, false, not, cond, None, Ok, Err, Result, IsPermutation, Ordering}
 use Rattle.std.proofs.Common.{Less, Equal, Greater, refl, sym, ap, subst, ◌∙◌}
 use Rattle.std.specs.Ordering.{is_eq, match_ordering}
 use Rattle.std.proofs.lemmas.List.Sorted.{IsPermutation-refl, IsPermutation-trans, IsPermutation-cons}
@@ -19,16 +19,14 @@ use Rattle.sqlite.specs.Does.{Tally, Does}
 use Rattle.sqlite.specs.Rows.{Written}
 use Rattle.sqlite.specs.Term.{Term}
 use Rattle.sqlite.specs.Tree.{Trees, put_row, rowid}
-use Rattle.sqlite.specs.declared.error.Error.{Error}
 use Rattle.sqlite.specs.Listing.{understood}
 use Rattle.sqlite.specs.Effect.{Database}
-use Rattle.sqlite.specs.State.{State, mode_of, Executes, CommitsBy}
-use Rattle.sqlite.proofs.Callers.{IsPlain, command_of, statement_of, runs_as, one_step}
+use Rattle.sqlite.specs.State.{State, mode_of}
+use Rattle.sqlite.proofs.Callers.{statement_of, one_step}
 use Rattle.op_shelf.specs.Entries.{entries, entry_in, Adds}
-use Rattle.op_shelf.specs.States.{rows_of, rows_left, tree_in, IsAdded}
-use Rattle.op_shelf.specs.Table.{shelf_schema, ops2, IsShelf}
+use Rattle.op_shelf.specs.Table.{shelf_schema, ops2}
 use Rattle.op_shelf.specs.Texts.{insert_text}
-use Rattle.op_shelf.proofs.Texts.{insert_is, insert_plain, terms}
+use Rattle.op_shelf.proofs.Texts.{terms}
 
 -- a part that gave a value did not stop on the way
 pub went : {B E R : Type 0} {b : B} {Stops : E → Type 0} → ((stop : E) × Stops stop × (Ok b ≡ Err stop)) ⊎ R → R
@@ -111,50 +109,3 @@ puts tree checks old after tally digest body kind has h =
       subst (λ all. IsPermutation (params ∷ entries (db tree)) (entries all))
           (sym rows) (IsPermutation-map entry_in (new ∷ db tree) (put_row new (db tree)) (put_adds new (db tree) free)),
     )
-
--- the INSERT, alone, is a commit
-pub adds : (old new : State) (digest body : List ℕ) (kind : ℕ) (r : Result ℕ Error) → IsShelf old.now.schema
-    → old.in_transaction ≡ false
-    → Executes insert_text (Text digest ∷ Int (pos kind) ∷ Blob body ∷ []) old new r
-    → OnOk r (IsAdded old new (Text digest ∷ Int (pos kind) ∷ Blob body ∷ []))
-adds old new digest body kind (Err e) shelf alone h = tt
-adds old new digest body kind (Ok count) shelf alone h =
-    let tree = shelf.0 in
-    let checks = shelf.2 in
-    let has = shelf.3 in
-    let params = Text digest ∷ Int (pos kind) ∷ Blob body ∷ [] in
-    let w = runs_as insert_text params old new (shelf_schema tree checks) has (Insert 0 (Values terms 4))
-    (insert_is tree checks) (insert_plain tree checks) count h in
-    let it = puts tree checks old new.now w.tally digest body kind has w.changed in
-    record {
-      was_open = w.shown.was_open;
-      is_open = w.shown.is_open;
-      schema = it.0 ∙ sym has;
-      rows = subst (λ n. Adds (old.now.trees n) (new.now.trees (tree_in new.now.schema)) params) (sym (ap tree_in has))
-          (subst (λ n. Adds (old.now.trees tree) (new.now.trees n) params) (sym (ap tree_in it.0)) it.1);
-      committed = rw alone at w.shown.committed_is;
-      alone = w.shown.mode ∙ alone;
-    }
-
--- what a crash may find of it
-pub commits : (old : State) (digest body : List ℕ) (kind : ℕ) (db : Trees) → IsShelf old.now.schema
-    → CommitsBy insert_text (Text digest ∷ Int (pos kind) ∷ Blob body ∷ []) old db
-    → Adds (rows_of old) (rows_left old db) (Text digest ∷ Int (pos kind) ∷ Blob body ∷ [])
-unfolding CommitsBy
-commits old digest body kind db shelf h =
-    let tree = shelf.0 in
-    let checks = shelf.2 in
-    let has = shelf.3 in
-    let params = Text digest ∷ Int (pos kind) ∷ Blob body ∷ [] in
-    let known = sym h.1.is ∙ ap (λ s. understood s insert_text) has in
-    let bare = subst IsPlain (sym known) (insert_plain tree checks) in
-    let is : h.0.command ≡ Insert 0 (Values terms 4) = ap command_of known ∙ insert_is tree checks in
-    let made = rw (bare.0, bare.1, append-nil params, is) at h.2 in
-    elim made [
-      | inl ends ↦ absurd (elim ends.0 [ inl commit ↦ let e = commit in cc | inr release ↦ let e = release.2 in cc ])
-      | inr writes ↦
-          let it = puts tree checks old writes.2 writes.1 digest body kind has writes.3 in
-          let found : Adds (old.now.trees tree) (db tree) params = subst (λ all. Adds (old.now.trees tree) all params)
-          (sym (ap (λ (t : Trees). t tree) writes.5)) it.1 in
-          subst (λ n. Adds (old.now.trees n) (db n) params) (sym (ap tree_in has)) found
-    ]

@@ -1,6 +1,6 @@
 -- What a put makes of the operations that a shelf keeps.
 use Rattle.std.proofs.Common.{◌≡◌, ◌⊎◌, ◌↔◌, inl, inr, zero, suc, ℕ, List, [], ◌∷◌}
-use Rattle.std.proofs.Common.{All, IfOk, IsTrue, IsPermutation, Contains, Ok, Err, Result, OnOk}
+use Rattle.std.proofs.Common.{All, IfOk, IsTrue, Contains, Ok, Err, Result, OnOk}
 use Rattle.std.proofs.Common.{OnErr, refl, sym}
 use Rattle.std.proofs.Common.{ap, subst, arith}
 use Rattle.std.specs.Ordering.{is_eq}
@@ -17,24 +17,21 @@ use Rattle.operation.specs.Spelling.{spelling}
 use Rattle.op_shelf.specs.declared.kept.Kept.{Kept}
 use Rattle.op_shelf.specs.declared.kept.Kept.TheVariants.{New, Known}
 use Rattle.op_shelf.specs.declared.fault.ShelfFault.{ShelfFault}
-use Rattle.op_shelf.specs.Entries.{entries, entry_by, entry_of, digest_text, Adds, Holds}
+use Rattle.op_shelf.specs.Entries.{IsWhole, entries, entry_by, entry_of, digest_text, Holds}
 use Rattle.op_shelf.specs.Keep.{AreSame, Gains, GainsAll, Finds, with_one}
 use Rattle.op_shelf.specs.Group.{PutsAll, IsPutAll, MayHaveAll}
-use Rattle.op_shelf.specs.States.{rows_of, rows_left, tree_in, among, under, IsPut, IsKnown, KeepsAll, IsUp, Lasts}
+use Rattle.op_shelf.specs.States.{rows_of, rows_left, tree_in, among, apart, Mends, IsPut, IsKnown, KeepsAll, IsUp}
+use Rattle.op_shelf.specs.States.{Lasts}
 use Rattle.op_shelf.proofs.Groups.{holds_on, all_held}
-use Rattle.op_shelf.proofs.Ops.{same_entry, still_there}
+use Rattle.op_shelf.proofs.Ops.{all_at, kept_was, same_entry, still_apart, still_there, whole_entry}
 
--- an entry that is there is among those under its digest
-absent : (all : List Row) (op : Op) → among (digest_text op) all ≡ [] → ¬ Contains all (entry_of op)
-absent all op none held =
+-- where none under its digest has its bytes, an operation is not there
+absent : (all : List Row) (op : Op) → All (λ e. ¬ IsWhole e) (among (digest_text op) all) → ¬ Contains all (entry_of op)
+absent all op spoiled held =
     let test = λ (e : Row). is_eq (value_cmp (column e 0) (Text (digest_text op))) in
     let there = still_there test all (entry_of op) (ap is_eq (tied_itself value_cmp_total (Text (digest_text op)))) held
     in
-    let nowhere : Contains [] (entry_of op) = subst (λ (es : List Row). Contains es (entry_of op)) none there in
-    absurd (omega (arith, nowhere.1))
-
-is_under : (rows : List Row) (op : Op) → under (digest_text op) rows ≡ [] → ¬ Holds rows op
-is_under rows op none held = absent (entries rows) op none held
+    all_at (λ e. ¬ IsWhole e) (among (digest_text op) all) (entry_of op) spoiled there (whole_entry op)
 
 -- operations of one entry are spelled alike, whatever the digest of the first
 pub alike_by : (text : List ℕ) (a b : Op) → entry_by text (spelling a) ≡ entry_of b → spelling a ≡ spelling b
@@ -47,29 +44,33 @@ first_or_later : {X : Type 0} (x : X) (xs : List X) (y : X) → Contains (x ∷ 
 first_or_later x xs y (zero, low, at) = inl at
 first_or_later x xs y (suc k, low, at) = inr (k, omega (arith, low), at)
 
-one_more : (old new : List Row) (op : Op) → Adds old new (entry_of op) → (other : Op) → Holds new other ↔
-    (Holds old other ⊎ (spelling other ≡ spelling op))
-one_more old new op adds other = (
-  λ held. elim (first_or_later (entry_of op) (entries old) (entry_of other)
-      (Contains-permutation (entries new) (entry_of op ∷ entries old) (entry_of other)
-      (IsPermutation-sym (entry_of op ∷ entries old) (entries new) adds) held)) [
-        | inl it ↦ inr (alike other op (sym it))
-        | inr later ↦ inl later
+one_more : (old new : List Row) (op : Op) → Mends (digest_text op) (entry_of op) old new → (other : Op)
+    → Contains new (entry_of other) ↔ (Contains old (entry_of other) ⊎ (spelling other ≡ spelling op))
+one_more old new op mends other =
+    let all = entry_of op ∷ apart (digest_text op) old in (
+      λ held. elim (first_or_later (entry_of op) (apart (digest_text op) old) (entry_of other)
+          (Contains-permutation new all (entry_of other) (IsPermutation-sym all new mends.rows) held)) [
+            | inl it ↦ inr (alike other op (sym it))
+            | inr later ↦ inl (kept_was _ old (entry_of other) later)
+          ],
+      elim [
+        | inl was ↦
+            let there = still_apart (digest_text op) old (entry_of other) mends.spoiled (whole_entry other) was in
+            Contains-permutation all new (entry_of other) mends.rows (suc there.0, omega (arith, there.1), there.2)
+        | inr is ↦ Contains-permutation all new (entry_of other) mends.rows
+            (0, omega arith, sym (same_entry other op is))
       ],
-  elim [
-    | inl was ↦ Contains-permutation (entry_of op ∷ entries old) (entries new) (entry_of other)
-        adds (suc was.0, omega (arith, was.1), was.2)
-    | inr is ↦ Contains-permutation (entry_of op ∷ entries old) (entries new) (entry_of other)
-        adds (0, omega arith, sym (same_entry other op is))
-  ],
-)
+    )
+
+mends_of : (s t : State) (digest : List ℕ) (entry : Row) → IsPut s t digest entry
+    → Mends digest entry (entries (rows_of s)) (entries (rows_of t))
+mends_of s t digest entry it = record { spoiled = it.spoiled; rows = it.added.rows }
 
 module _ (s t : State) (op : Op) where
   pub gains : IsPut s t (digest_text op) (entry_of op) → Gains (Holds (rows_of s)) (Holds (rows_of t)) op
   gains it = record {
-    absent = is_under (rows_of s) op it.absent;
-    only = one_more (rows_of s) (rows_of t) op
-        it.added.rows;
+    absent = absent (entries (rows_of s)) op it.spoiled;
+    only = one_more (entries (rows_of s)) (entries (rows_of t)) op (mends_of s t (digest_text op) (entry_of op) it);
   }
 
   pub same_of : t.now ≡ s.now → AreSame (Holds (rows_of s)) (Holds (rows_of t))
@@ -106,7 +107,7 @@ module _ (s t : State) (op : Op) where
   -- what is up afterwards was up
   pub was_up : (r : Result Kept ShelfFault) → IsUp t → (r ≡ Ok New → IsPut s t (digest_text op) (entry_of op))
       → (r ≡ Ok Known → IsKnown s t (digest_text op) (entry_of op)) → OnErr r (KeepsAll s t)
-      → Survives s t (λ trees. Adds (rows_of s) (rows_left s trees) (entry_of op)) → IsUp s
+      → Survives s t (λ trees. Mends (digest_text op) (entry_of op) (entries (rows_of s)) (entries (rows_left s trees))) → IsUp s
   was_up r up put known refused crash = record {
     clean = omega (arith, crash.clean, up.clean);
     is_open = was_open r up put known refused;
@@ -115,7 +116,7 @@ module _ (s t : State) (op : Op) where
   -- what every crash left it leaves afterwards
   pub lasts_on : (r : Result Kept ShelfFault) → IsUp t → (r ≡ Ok New → IsPut s t (digest_text op) (entry_of op))
       → (r ≡ Ok Known → IsKnown s t (digest_text op) (entry_of op)) → OnErr r (KeepsAll s t)
-      → Survives s t (λ trees. Adds (rows_of s) (rows_left s trees) (entry_of op)) → (other : Op) → Lasts s other
+      → Survives s t (λ trees. Mends (digest_text op) (entry_of op) (entries (rows_of s)) (entries (rows_left s trees))) → (other : Op) → Lasts s other
       → Lasts t other
   lasts_on r up put known refused crash other was =
       let it = stays r up put known refused in
@@ -124,7 +125,8 @@ module _ (s t : State) (op : Op) where
         left = λ trees may. subst (λ n. Holds (trees n) other) (sym (ap tree_in it.schema))
             (elim (crash.crash up.clean trees may) [
               | inl before ↦ was.left trees before
-              | inr after ↦ ((one_more (rows_of s) (rows_left s trees) op after) other).1 (inl was.held)
+              | inr after ↦ (one_more (entries (rows_of s)) (entries (rows_left s trees)) op after other).1
+                  (inl was.held)
             ]);
       }
 
@@ -144,23 +146,18 @@ abbrev IsOf : (Op → Type 0) → List Row → Type 0
 IsOf held all = (other : Op) → held other ↔ Contains all (entry_of other)
 
 one_more_of : (held : Op → Type 0) (old new : List Row) (op : Op) → IsOf held old
-    → IsPermutation (entry_of op ∷ old) new → IsOf (with_one held op) new
-one_more_of held old new op is adds other = (
-  elim [
-    | inl was ↦
-        let there = (is other).0 was in
-        Contains-permutation (entry_of op ∷ old) new (entry_of other)
-        adds (suc there.0, omega (arith, there.1), there.2)
-    | inr same ↦ Contains-permutation (entry_of op ∷ old) new (entry_of other)
-        adds (0, omega arith, sym (same_entry other op same))
-  ],
-  λ held. elim (first_or_later (entry_of op) old (entry_of other)
-      (Contains-permutation new (entry_of op ∷ old) (entry_of other)
-      (IsPermutation-sym (entry_of op ∷ old) new adds) held)) [
-        | inl it ↦ inr (alike other op (sym it))
-        | inr later ↦ inl ((is other).1 later)
+    → Mends (digest_text op) (entry_of op) old new → IsOf (with_one held op) new
+one_more_of held old new op is mends other =
+    let it = one_more old new op mends other in (
+      elim [
+        | inl was ↦ it.1 (inl ((is other).0 was))
+        | inr same ↦ it.1 (inr same)
       ],
-)
+      λ there. elim (it.0 there) [
+        | inl was ↦ inl ((is other).1 was)
+        | inr same ↦ inr same
+      ],
+    )
 
 -- what the puts of a group make of the operations
 gains_in : (held : Op → Type 0) (old new : List Row) (ops : List Op) (kepts : List Kept) → IsOf held old
@@ -172,8 +169,8 @@ gains_in held old new [] [] is put = λ other. (
 gains_in held old new [] (k ∷ ks) is put = absurd put
 gains_in held old new (op ∷ ops) [] is put = absurd put
 gains_in held old new (op ∷ ops) (New ∷ ks) is put = (
-  λ was. absent old op put.1.0 ((is op).0 was),
-  gains_in (with_one held op) put.0 new ops ks (one_more_of held old put.0 op is put.1.1) put.2,
+  λ was. absent old op put.1.spoiled ((is op).0 was),
+  gains_in (with_one held op) put.0 new ops ks (one_more_of held old put.0 op is put.1) put.2,
 )
 gains_in held old new (op ∷ ops) (Known ∷ ks) is put = (
   (is op).1 put.1.0,
@@ -190,7 +187,8 @@ module _ (s t : State) (ops : List Op) where
       → IfOk r (λ v. IsPutAll s t ops (items v)) → OnErr r (KeepsAll s t) → Stays s t op
   all_stay op (Ok v) items up put refused = record {
     schema = put.schema;
-    held = λ other was. holds_on (entries (rows_of s)) (entries (rows_of t)) ops (items v) put.rows (entry_of other) was;
+    held = λ other was. holds_on (entries (rows_of s)) (entries (rows_of t)) ops (items v) put.rows (entry_of other)
+        (whole_entry other) was;
   }
   all_stay op (Err e) items up put refused = stays_same s t op (refused up.is_open).1
 
@@ -219,7 +217,7 @@ module _ (s t : State) (ops : List Op) where
             (elim (crash.crash up.clean trees may) [
               | inl before ↦ was.left trees before
               | inr after ↦ holds_on (entries (rows_of s)) (entries (rows_left s trees)) ops after.0 after.1
-                  (entry_of other) was.held
+                  (entry_of other) (whole_entry other) was.held
             ]);
       }
 

@@ -1,6 +1,7 @@
 mod Back
 mod Changes
 mod Damages
+mod Deletes
 mod Digits
 mod Groups
 mod Keeps

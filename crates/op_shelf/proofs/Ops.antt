@@ -1,16 +1,19 @@
 -- Entries and operations.
 use Rattle.std.proofs.Common.{◌≡◌, ◌++◌, ◌∷◌, ◌<◌, ◌+◌, zero, suc, take, get_or, take-suc, cond, Bool, true, false}
 use Rattle.std.proofs.Common.{filter, length, map, All, Any, Contains, IsPermutation, refl, sym, subst, ◌∙◌, arith, ap}
-use Rattle.std.proofs.Common.{ap₂, List, [], ℕ}
+use Rattle.std.proofs.Common.{ap₂, List, [], ℕ, inl, inr, not}
+use Rattle.std.proofs.lemmas.Bool.{cases_Bool}
+use Rattle.std.specs.Ordering.{is_eq}
 use Rattle.std.proofs.lemmas.List.Sorted.{IsPermutation-sym, Contains-permutation, length_permutation}
 use Rattle.std.proofs.lemmas.List.Elements.{All-push}
-use Rattle.sqlite.specs.Order.{Row, column}
-use Rattle.sqlite.specs.declared.types.Value.TheVariants.{Blob}
+use Rattle.sqlite.specs.Order.{Row, column, value_cmp}
+use Rattle.sqlite.specs.declared.types.Value.TheVariants.{Blob, Text}
 use Rattle.hex.specs.Hex.{encode_lower}
 use Rattle.sha2.specs.Sha256.{sha256}
 use Rattle.operation.specs.declared.op.Op.{Op}
 use Rattle.operation.specs.Spelling.{spelling, hash_of}
-use Rattle.op_shelf.specs.Entries.{entry_by, entry_of, digest_text}
+use Rattle.op_shelf.specs.Entries.{IsWhole, entry_by, entry_of, digest_text}
+use Rattle.op_shelf.specs.States.{among, apart}
 
 -- what is spelled alike has one digest
 pub digest_texts : (a b : Op) → spelling a ≡ spelling b → digest_text a ≡ digest_text b
@@ -76,6 +79,25 @@ still_there p (y ∷ ys) x passes (suc k, low, at) =
     step : (b : Bool) → Contains (filter p ys) x → Contains (cond b (y ∷ filter p ys) (filter p ys)) x
     step true found = (suc found.0, omega (arith, found.1), found.2)
     step false found = found
+
+-- what holds of each of some holds of one of them
+pub all_at : {X : Type 0} (P : X → Type 0) (xs : List X) (x : X) → All P xs → Contains xs x → P x
+all_at P xs x all (i, low, at) = subst P at (all i x low)
+
+-- the entry of an operation has the bytes of its digest
+pub whole_entry : (op : Op) → IsWhole (entry_of op)
+unfolding hash_of
+whole_entry op = (spelling op, refl)
+
+-- what has the bytes of its digest is not under one where nothing has
+pub still_apart : (digest : List ℕ) (all : List Row) (entry : Row) → All (λ e. ¬ IsWhole e) (among digest all)
+    → IsWhole entry → Contains all entry → Contains (apart digest all) entry
+still_apart digest all entry spoiled whole held =
+    elim (cases_Bool (is_eq (value_cmp (column entry 0) (Text digest)))) [
+      | inl here ↦ absurd (all_at (λ e. ¬ IsWhole e) (among digest all) entry spoiled
+          (still_there (λ e. is_eq (value_cmp (column e 0) (Text digest))) all entry here held) whole)
+      | inr away ↦ still_there (λ e. not (is_eq (value_cmp (column e 0) (Text digest)))) all entry (ap not away) held
+    ]
 
 -- one more of those so far
 pub all_upto : {X : Type 0} (P : X → Type 0) (xs : List X) (i : ℕ) (x : X) → i < length xs → x ≡ get_or xs i x → P x

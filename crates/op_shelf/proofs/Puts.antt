@@ -1,4 +1,4 @@
--- A look and then an INSERT.
+-- A look and then a put.
 use Rattle.std.proofs.Common.{◌≡◌, ◌<◌, inl, inr, ℕ, List, [], ◌∷◌, length, All, Contains, IsTrue, IsPermutation}
 use Rattle.std.proofs.Common.{Result, Ok, Err, OnOk}
 use Rattle.std.proofs.Common.{refl, sym, ap, subst, ◌∙◌, le_refl, arith}
@@ -10,9 +10,9 @@ use Rattle.sqlite.specs.Tree.{Trees}
 use Rattle.sqlite.specs.Effect.{Database}
 use Rattle.sqlite.specs.State.{State, HasCleanDisk, IsUnchanged, Survives}
 use Rattle.sqlite.proofs.StateLemmas.{survives_then, survives_weaker}
-use Rattle.op_shelf.specs.Entries.{entries, Adds}
-use Rattle.op_shelf.specs.States.{rows_of, rows_left, tree_in, under, IsAdded, IsBare, IsMade, IsReady, IsKnown}
-use Rattle.op_shelf.specs.States.{KeepsAll, Spares, MayBecome}
+use Rattle.op_shelf.specs.Entries.{IsWhole, entries}
+use Rattle.op_shelf.specs.States.{rows_of, rows_left, tree_in, apart, under, IsBare, IsMade, IsReady, IsReplaced, IsKnown}
+use Rattle.op_shelf.specs.States.{KeepsAll, Mends, Replaces, Spares, MayBecome}
 use Rattle.op_shelf.specs.Migration.{IsOlder, IsMigrated, IsMigration}
 use Rattle.op_shelf.specs.Table.{IsShelf}
 use Rattle.op_shelf.proofs.Ops.{first_is, kept_was}
@@ -52,13 +52,6 @@ spares_ready s t ready (inr back) up =
       settled = λ _. (back.undone up).0 ∙ sym (back.undone up).1;
     }
 
-pub added_ready : (s t : State) (entry : Row) → IsReady s → IsAdded s t entry → IsReady t
-added_ready s t entry ready added = record {
-  shelf = subst IsShelf (sym added.schema) ready.shelf;
-  alone = added.alone;
-  settled = λ _. sym added.committed;
-}
-
 pub made_ready : (s t : State) → IsMade s t → IsReady t
 made_ready s t made = record { shelf = made.shelf; alone = made.alone; settled = λ _. sym made.committed }
 
@@ -89,12 +82,14 @@ known_from s t digest entry rows found some all same =
       same = same;
     }
 
-pub added_after : (s m t : State) (entry : Row) → IsUnchanged s m → IsAdded m t entry → IsAdded s t entry
-added_after s m t entry same it = record {
+pub replaced_after : (s m t : State) (digest : List ℕ) (entry : Row) → IsUnchanged s m → IsReplaced m t digest entry
+    → IsReplaced s t digest entry
+replaced_after s m t digest entry same it = record {
   was_open = same.0.was_open;
   is_open = it.is_open;
   schema = it.schema ∙ ap (λ (d : Database). d.schema) same.0.now_is;
-  rows = subst (λ (d : Database). Adds (d.trees (tree_in d.schema)) (rows_of t) entry) same.0.now_is it.rows;
+  rows = subst (λ (d : Database). Replaces digest entry (entries (d.trees (tree_in d.schema))) (entries (rows_of t)))
+      same.0.now_is it.rows;
   committed = it.committed;
   alone = it.alone;
 }
@@ -118,17 +113,21 @@ survives_bare s t bare h = survives_weaker s t (λ trees. trees 0 ≡ []) (MayBe
 pub survives_older : (s t : State) → IsOlder s → Survives s t (IsMigration s) → Survives s t (MayBecome s)
 survives_older s t older h = survives_weaker s t (IsMigration s) (MayBecome s) (λ _ db it. inr (older, it)) h
 
--- what a crash finds after a look and an INSERT
-pub survives_put : (s m t : State) (entry : Row) → (HasCleanDisk m → IsUnchanged s m) → Survives s m (λ _. ⊥)
-    → Survives m t (λ trees. Adds (rows_of m) (rows_left m trees) entry)
-    → Survives s t (λ trees. Adds (rows_of s) (rows_left s trees) entry)
-survives_put s m t entry same one two =
-    survives_then s m t (λ _. ⊥) (λ trees. Adds (rows_of m) (rows_left m trees) entry)
-    (λ trees. Adds (rows_of s) (rows_left s trees) entry) (λ _ db none. absurd none)
-    (λ clean db adds.
+-- what a crash finds after a look and a put
+pub survives_put : (s m t : State) (digest : List ℕ) (entry : Row) → (HasCleanDisk m → IsUnchanged s m)
+    → (HasCleanDisk m → All (λ e. ¬ IsWhole e) (under digest (rows_of s))) → Survives s m (λ _. ⊥)
+    → Survives m t (λ trees. Replaces digest entry (entries (rows_of m)) (entries (rows_left m trees)))
+    → Survives s t (λ trees. Mends digest entry (entries (rows_of s)) (entries (rows_left s trees)))
+survives_put s m t digest entry same spoiled one two =
+    survives_then s m t (λ _. ⊥) (λ trees. Replaces digest entry (entries (rows_of m)) (entries (rows_left m trees)))
+    (λ trees. Mends digest entry (entries (rows_of s)) (entries (rows_left s trees))) (λ _ db none. absurd none)
+    (λ clean db replaces.
     let early : HasCleanDisk m = omega (arith, two.clean, clean) in
-    subst (λ (d : Database). Adds (d.trees (tree_in d.schema)) (db (tree_in d.schema)) entry) (same early).0.now_is
-    adds) one two
+    record {
+      spoiled = spoiled early;
+      rows = subst (λ (d : Database). Replaces digest entry (entries (d.trees (tree_in d.schema)))
+          (entries (db (tree_in d.schema)))) (same early).0.now_is replaces;
+    }) one two
 
 -- every crash leaves what was committed
 module _ (s t : State) (entry : Row) (settled : (db : Trees) → IsTrue t.is_open → t.may_leave db
@@ -145,7 +144,8 @@ module _ (s t : State) (entry : Row) (settled : (db : Trees) → IsTrue t.is_ope
       left_of it.same.0.is_open (it.same.0.committed_is ∙ sym (ready.settled it.same.0.was_open) ∙ sym it.same.0.now_is)
       (subst (λ (d : Database). Contains (entries (d.trees (tree_in d.schema))) entry) (sym it.same.0.now_is) it.held)
 
-  pub lasts_added : IsAdded s t entry → (trees : Trees) → t.may_leave trees → Contains (entries (rows_left t trees))
-      entry
-  lasts_added it = left_of it.is_open it.committed (Contains-permutation (entry ∷ entries (rows_of s))
-      (entries (rows_of t)) entry it.rows (0, omega arith, refl))
+  pub lasts_replaced : (digest : List ℕ) → IsReplaced s t digest entry → (trees : Trees) → t.may_leave trees
+      → Contains (entries (rows_left t trees)) entry
+  lasts_replaced digest it = left_of it.is_open it.committed
+      (Contains-permutation (entry ∷ apart digest (entries (rows_of s))) (entries (rows_of t)) entry it.rows
+      (0, omega arith, refl))

@@ -9,12 +9,13 @@ use Rattle.sqlite_sql.specs.declared.ops.CompareOp.TheVariants.{Eq}
 use Rattle.sqlite_sql.specs.declared.ops.UnaryOp.TheVariants.{ToNumeric}
 use Rattle.sqlite_sql.specs.declared.ops.BinaryOp.TheVariants.{Compare}
 use Rattle.sqlite.specs.Source.TheVariants.{Values}
-use Rattle.sqlite.specs.Command.TheVariants.{Insert, Select}
+use Rattle.sqlite.specs.Command.{Command}
+use Rattle.sqlite.specs.Command.TheVariants.{Delete, Insert, Select}
 use Rattle.sqlite.specs.Listing.{understood, reads_listing}
 use Rattle.sqlite_tied.specs.Compute.{everything}
 use Rattle.sqlite.proofs.Callers.{IsPlain, command_of}
 use Rattle.op_shelf.specs.Table.{shelf_schema}
-use Rattle.op_shelf.specs.Texts.{insert_text, all_text, held_text, kind_text}
+use Rattle.op_shelf.specs.Texts.{delete_text, ids_text, insert_text, all_text, held_text, kind_text, rowid_text}
 
 abbrev pub terms : List Term
 terms = lit Null ∷ col 0 0 ∷ col 0 1 ∷ col 0 2 ∷ []
@@ -103,3 +104,65 @@ kind_is tree checks (inl first) = subst (λ n. IsQuery n checks kind_text (kind_
     (record { is = refl; plain = (refl, refl); unlisted = refl })
 kind_is tree checks (inr third) = subst (λ n. IsQuery n checks kind_text (kind_query n) (codes "kind" ∷ [])) (sym third)
     (record { is = refl; plain = (refl, refl); unlisted = refl })
+
+-- the rowids of those under a digest
+abbrev pub ids_query : ℕ → Query
+ids_query tree = record {
+  from = inner tree end;
+  filter = op2 (Compare Eq Binary) (col 1 1) (col 0 0) ∷ [];
+  group = None;
+  project = col 1 0 ∷ [];
+  distinct = false;
+  collations = [];
+  order = [];
+  limit = lit (Int (negsuc 0));
+  offset = lit (Int (pos 0));
+}
+
+abbrev pub id_names : List (List ℕ)
+id_names = codes "rowid" ∷ []
+
+pub ids_is : (tree : ℕ) (checks : List Term) → Serves tree → IsQuery tree checks ids_text (ids_query tree) id_names
+unfolding understood everything
+ids_is tree checks (inl first) = subst (λ n. IsQuery n checks ids_text (ids_query n) id_names) (sym first)
+    (record { is = refl; plain = (refl, refl); unlisted = refl })
+ids_is tree checks (inr third) = subst (λ n. IsQuery n checks ids_text (ids_query n) id_names) (sym third)
+    (record { is = refl; plain = (refl, refl); unlisted = refl })
+
+-- those of a rowid
+abbrev pub rowid_query : ℕ → Query
+rowid_query tree = record {
+  from = inner tree end;
+  filter = op2 (Compare Eq Binary) (col 1 0) (col 0 0) ∷ [];
+  group = None;
+  project = col 1 0 ∷ [];
+  distinct = false;
+  collations = [];
+  order = [];
+  limit = lit (Int (negsuc 0));
+  offset = lit (Int (pos 0));
+}
+
+pub rowid_is : (tree : ℕ) (checks : List Term) → Serves tree
+    → IsQuery tree checks rowid_text (rowid_query tree) id_names
+unfolding understood everything
+rowid_is tree checks (inl first) = subst (λ n. IsQuery n checks rowid_text (rowid_query n) id_names) (sym first)
+    (record { is = refl; plain = (refl, refl); unlisted = refl })
+rowid_is tree checks (inr third) = subst (λ n. IsQuery n checks rowid_text (rowid_query n) id_names) (sym third)
+    (record { is = refl; plain = (refl, refl); unlisted = refl })
+
+-- the DELETE takes those out that the first of these shows
+abbrev pub delete_command : ℕ → Command
+delete_command tree = Delete 0 (record { lets = []; body = ids_query tree })
+
+-- the text takes those out, over any schema of a shelf
+pub record IsDelete (tree : ℕ) (checks : List Term) : Type 0 where
+  pub is : command_of (understood (shelf_schema tree checks) delete_text) ≡ delete_command tree
+  pub plain : IsPlain (understood (shelf_schema tree checks) delete_text)
+
+pub delete_is : (tree : ℕ) (checks : List Term) → Serves tree → IsDelete tree checks
+unfolding understood everything
+delete_is tree checks (inl first) = subst (λ n. IsDelete n checks) (sym first)
+    (record { is = refl; plain = (refl, refl) })
+delete_is tree checks (inr third) = subst (λ n. IsDelete n checks) (sym third)
+    (record { is = refl; plain = (refl, refl) })

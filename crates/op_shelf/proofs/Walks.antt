@@ -1,6 +1,6 @@
 -- What a walk over the entries knows at each row, where the state at its start is `first`.
 use Rattle.std.proofs.Common.{◌≡◌, ◌++◌, ◌∷◌, ◌≤◌, [], List, None, Ok, inl, inr, sym, ap, subst, ◌∙◌, IsPermutation}
-use Rattle.std.proofs.Common.{Contains, Option, Some, Result, Err, OnOk, OnErr, arith}
+use Rattle.std.proofs.Common.{Contains, Option, Some, Result, Err, IfErr, OnOk, OnErr, arith, refl}
 use Rattle.std.proofs.lemmas.List.Elements.{Contains-push, Contains-append_left}
 use Rattle.std.proofs.lemmas.List.Sorted.{IsPermutation-sym, Contains-permutation}
 use Rattle.sqlite.specs.Order.{Row}
@@ -21,14 +21,15 @@ use Rattle.sqlite.proofs.StreamLemmas.{fails_since}
 use Rattle.op_shelf.specs.Entries.{IsEntry, HasBadRow, entries}
 use Rattle.op_shelf.specs.declared.fault.ShelfFault.{ShelfFault}
 use Rattle.op_shelf.specs.declared.fault.ShelfFault.TheVariants.{Store}
+use Rattle.op_shelf.specs.declared.fault.StoreCause.TheVariants.{Other}
 use Rattle.op_shelf.specs.Fault.{IsNoStore, fault_of}
-use Rattle.op_shelf.specs.States.{Spares, rows_of, tree_in}
+use Rattle.op_shelf.specs.States.{IsReady, Spares, rows_of, tree_in}
 use Rattle.op_shelf.specs.Table.{IsShelf}
 use Rattle.op_shelf.specs.Texts.{all_text}
-use Rattle.op_shelf.specs.Walking.{IsWalking, GivesRow, Walks}
+use Rattle.op_shelf.specs.Walking.{IsWalking, GivesRow, Looks, Walks}
 use Rattle.op_shelf.proofs.Back.{query_spares}
 use Rattle.op_shelf.proofs.Migrated.{crash_then}
-use Rattle.op_shelf.proofs.Puts.{survives_none}
+use Rattle.op_shelf.proofs.Puts.{spares_keeps, survives_none}
 use Rattle.op_shelf.proofs.Queries.{lists, plain_all}
 use Rattle.op_shelf.proofs.Texts.{all_is}
 
@@ -169,6 +170,22 @@ module _ {S : Type 0} (g : Ghosts S) where
     crash = step.crash;
   }
 
+  -- what is told of a walk that is over
+  pub walks_told : {A B : Type 0} (old new : Held S) (a : A) (r : Result B ShelfFault) → Walks g old new (Ok a)
+      → IfErr r IsNoStore → Walks g old new r
+  walks_told old new a (Ok b) read none = record {
+    same = read.same;
+    refused = λ late. tt;
+    store = λ late why bad. absurd cc;
+    crash = read.crash;
+  }
+  walks_told old new a (Err e) read none = record {
+    same = λ late. tt;
+    refused = λ late. inl (read.same late);
+    store = λ late why bad. let is : e ≡ Store why = cc in absurd (none why is);
+    crash = read.crash;
+  }
+
   -- a fault that is none of the database
   pub walks_no_store : {A : Type 0} (first end : Held S) (given : List Row) (e : ShelfFault) → HasWalked first end given
       → IsNoStore e → Walks {A = A} g first end (Err e)
@@ -280,3 +297,22 @@ module _ {S : Type 0} (g : Ghosts S) where
         };
         same = λ late. (it late).1;
       }
+
+  -- A look at a shelf that is ready is a walk.
+  pub walk_looks : {A : Type 0} (old new : Held S) (r : Result A ShelfFault) → IsReady (state g old) → Walks g old new r
+      → Looks g old new r
+  walk_looks old new r ready walked = record {
+    same = walked.same;
+    refused = λ late. on_err r _ _ (spares_keeps (state g old) (state g new) ready) (walked.refused late);
+    store = λ late why bad. inr (walked.store late why bad);
+    crash = walked.crash;
+  }
+
+  -- At one that is not ready nobody looks.
+  pub unready_looks : {A : Type 0} (h : Held S) → ¬ IsReady (state g h) → Looks {A = A} g h h (Err (Store Other))
+  unready_looks h unready = record {
+    same = λ late. tt;
+    refused = λ late up. (up, refl);
+    store = λ late why bad. inl (cc, unready);
+    crash = survives_none (state g h) (λ _. ⊥);
+  }

@@ -1,6 +1,7 @@
 -- The rows of the table, and the operations that they stand for.
 use Rattle.std.specs.Prelude.{◌≡◌, pos, ℕ, List, [], ◌∷◌, map, Contains, IsPermutation}
 use Rattle.hex.specs.Hex.{encode_lower}
+use Rattle.sha2.specs.Sha256.{sha256}
 use Rattle.sqlite.specs.declared.types.Value.TheVariants.{Int, Text, Blob}
 use Rattle.sqlite.specs.Order.{Row, column}
 use Rattle.operation.specs.declared.op.Op.{Op}
@@ -31,6 +32,10 @@ entry_under digest op = entry_by (encode_lower digest) (spelling op)
 -- and that of one that stands under its digest
 abbrev pub own_entry : Op → Row
 own_entry op = entry_under (digest_of op) op
+
+-- an entry has the bytes of its digest
+abbrev pub IsWhole : Row → Type 0
+IsWhole entry = (body : List ℕ) × (entry ≡ entry_by (encode_lower (sha256 body)) body)
 
 -- the entry that a row of the table has behind its rowid
 abbrev pub entry_in : Row → Row

@@ -11,15 +11,15 @@ use Rattle.op_shelf.specs.declared.kept.Kept.{Kept}
 use Rattle.op_shelf.specs.declared.kept.Kept.TheVariants.{New, Known}
 use Rattle.op_shelf.specs.declared.fault.ShelfFault.{ShelfFault}
 use Rattle.op_shelf.specs.declared.fault.ShelfFault.TheVariants.{BadRow}
-use Rattle.op_shelf.specs.Entries.{entries, Adds}
+use Rattle.op_shelf.specs.Entries.{entries}
 use Rattle.op_shelf.specs.Fault.{IfStore}
-use Rattle.op_shelf.specs.Group.{IsPutAll, MayHaveAll, FindsOther, IsNotPut}
-use Rattle.op_shelf.specs.States.{IfClean, IsPut, IsKnown, KeepsAll, StaysReady, HasOther, IsNotKept, rows_of}
+use Rattle.op_shelf.specs.Group.{IsPutAll, MayHaveAll, FindsOther, IsNotKept, IsNotPut}
+use Rattle.op_shelf.specs.States.{IfClean, IsPut, IsKnown, KeepsAll, Mends, StaysReady, HasOther, rows_of}
 use Rattle.op_shelf.specs.States.{rows_left}
 
--- Whether an entry was put: New adds exactly that entry, Known finds it there, and a refusal changes nothing. A shelf
--- that was ready, and is open, is ready. Each fault, only where it is. A crash finds the entries from before, with this
--- one or without, and after Ok with it.
+-- Whether an entry was put: New adds exactly that entry, in the place of what under its digest has not its bytes, Known
+-- finds it there, and a refusal changes nothing. A shelf that was ready, and is open, is ready. Each fault, only where it
+-- is. A crash finds the entries from before, with this one put or without, and after Ok with it.
 pub record PutsEntry {S : Type 0} (g : Ghosts S) (old later : Held S) (digest : List ℕ) (entry : Row)
     (result : Result Kept ShelfFault) : Type 0 where
   pub new : IfClean g old later (λ s t. result ≡ Ok New → IsPut s t digest entry)
@@ -28,8 +28,8 @@ pub record PutsEntry {S : Type 0} (g : Ghosts S) (old later : Held S) (digest : 
   pub ready : IfClean g old later StaysReady
   pub bad_row : IfClean g old later (λ s t. IsErrOf result BadRow → HasOther (rows_of s) digest entry)
   pub store : IfClean g old later (λ s t. IfStore result (λ why. IsNotKept g why old later digest entry))
-  pub crash : Survives (state g old) (state g later) (λ trees. Adds (rows_of (state g old))
-      (rows_left (state g old) trees) entry)
+  pub crash : Survives (state g old) (state g later) (λ trees. Mends digest entry (entries (rows_of (state g old)))
+      (entries (rows_left (state g old) trees)))
   pub durable : IfClean g old later (λ s t. OnOk result ((trees : Trees) → t.may_leave trees → Contains (entries
       (rows_left t trees)) entry))
 

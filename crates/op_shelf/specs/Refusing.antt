@@ -6,12 +6,12 @@ use Rattle.sqlite.specs.Held.{Held}
 use Rattle.operation.specs.declared.op.Op.{Op}
 use Rattle.op_shelf.specs.declared.fault.ShelfFault.{ShelfFault}
 use Rattle.op_shelf.specs.declared.fault.ShelfFault.TheVariants.{Store, BadRow, Memory}
-use Rattle.op_shelf.specs.Group.{FindsOther, IsNotPut}
+use Rattle.op_shelf.specs.Group.{FindsOther, IsNotKept, IsNotPut}
 use Rattle.op_shelf.specs.Loading.{AreAmiss, IsNotLoaded, at_digest}
-use Rattle.op_shelf.specs.States.{IfClean, HasOther, IsNotKept, rows_of}
+use Rattle.op_shelf.specs.States.{IfClean, HasOther, rows_of}
 
--- Of an entry: the database refused it, for this cause, or another one is there under its digest; or memory was
--- refused.
+-- Of an entry: the database refused it, for this cause, or another one that has its bytes is there under its digest; or
+-- memory was refused.
 abbrev pub RefusesEntry : {S : Type 0} → Ghosts S → Held S → Held S → List ℕ → Row → ShelfFault → Type 0
 RefusesEntry g old later digest entry (Store why) = IfClean g old later (λ s t. IsNotKept g why old later digest entry)
 RefusesEntry g old later digest entry BadRow = IfClean g old later (λ s t. HasOther (rows_of s) digest entry)

@@ -1,6 +1,6 @@
 -- What a connection shows of the table, and what a call leaves.
-use Rattle.std.specs.Prelude.{◌≡◌, ◌≢◌, ◌⊎◌, ◌∷◌, ℕ, false, All, Any, Contains, Err, List, [], filter, length, pos}
-use Rattle.std.specs.Prelude.{IsTrue}
+use Rattle.std.specs.Prelude.{◌≡◌, ◌≢◌, ◌⊎◌, ◌∷◌, ℕ, false, not, All, Any, Contains, Err, List, [], filter, length, pos}
+use Rattle.std.specs.Prelude.{IsPermutation, IsTrue}
 use Rattle.std.specs.declared.cmp.Ordering.{Ordering}
 use Rattle.std.specs.Ordering.{is_eq, on}
 use Rattle.sqlite.specs.Order.{Row, column, value_cmp}
@@ -18,10 +18,10 @@ use Rattle.op_shelf.specs.declared.fault.StoreCause.TheVariants.{Other}
 use Rattle.op_shelf.specs.Fault.{fault_of}
 use Rattle.op_shelf.specs.Migration.{IsOlder, IsMigrated, IsMigration, IsNotSwapped, HasBadPair}
 use Rattle.op_shelf.specs.Table.{IsShelf, no_schema}
-use Rattle.op_shelf.specs.Texts.{create_text, held_text, insert_text, older_text}
+use Rattle.op_shelf.specs.Texts.{create_text, older_text}
 use Rattle.sqlite.specs.Held.{Held, state}
 use Rattle.operation.specs.declared.op.Op.{Op}
-use Rattle.op_shelf.specs.Entries.{entries, Adds, Holds}
+use Rattle.op_shelf.specs.Entries.{IsWhole, entries, Holds}
 
 -- the tree of the first table
 abbrev pub first_tree : List Table → ℕ
@@ -51,7 +51,11 @@ Spares s t = IsUnchanged s t ⊎ IsRolledBack s t
 abbrev pub among : List ℕ → List Row → List Row
 among digest all = filter (λ entry. is_eq (value_cmp (column entry 0) (Text digest))) all
 
--- and of the entries of the table
+-- and the others
+abbrev pub apart : List ℕ → List Row → List Row
+apart digest all = filter (λ entry. not (is_eq (value_cmp (column entry 0) (Text digest)))) all
+
+-- those of the entries of the table
 abbrev pub under : List ℕ → List Row → List Row
 under digest rows = among digest (entries rows)
 
@@ -63,15 +67,6 @@ count_of kind rows = length (filter (λ entry. is_eq (value_cmp (column entry 1)
 abbrev pub digest_cmp : Row → Row → Ordering
 digest_cmp = on (λ entry. column entry 0) value_cmp
 
--- the entry was added, and the change is committed
-pub record IsAdded (s t : State) (entry : Row) : Type 0 where
-  pub was_open : IsTrue s.is_open
-  pub is_open : IsTrue t.is_open
-  pub schema : t.now.schema ≡ s.now.schema
-  pub rows : Adds (rows_of s) (rows_of t) entry
-  pub committed : t.committed ≡ t.now
-  pub alone : t.in_transaction ≡ false
-
 -- the table stands alone, and no transaction is open
 pub record IsReady (s : State) : Type 0 where
   pub shelf : IsShelf s.now.schema
@@ -82,10 +77,28 @@ pub record IsReady (s : State) : Type 0 where
 abbrev pub StaysReady : State → State → Type 0
 StaysReady s t = IsReady s → IsTrue t.is_open → IsReady t
 
--- the digest was not there, and the entry was added
+-- an entry stands in the place of those under a digest, and else all is the same
+abbrev pub Replaces : List ℕ → Row → List Row → List Row → Type 0
+Replaces digest entry old new = IsPermutation (entry ∷ apart digest old) new
+
+-- the same where what stood there had not the bytes of the digest
+pub record Mends (digest : List ℕ) (entry : Row) (old new : List Row) : Type 0 where
+  pub spoiled : All (λ e. ¬ IsWhole e) (among digest old)
+  pub rows : Replaces digest entry old new
+
+-- the entry stands in the place of those under its digest, and the change is committed
+pub record IsReplaced (s t : State) (digest : List ℕ) (entry : Row) : Type 0 where
+  pub was_open : IsTrue s.is_open
+  pub is_open : IsTrue t.is_open
+  pub schema : t.now.schema ≡ s.now.schema
+  pub rows : Replaces digest entry (entries (rows_of s)) (entries (rows_of t))
+  pub committed : t.committed ≡ t.now
+  pub alone : t.in_transaction ≡ false
+
+-- none under the digest had its bytes, and the entry was put there
 pub record IsPut (s t : State) (digest : List ℕ) (entry : Row) : Type 0 where
-  pub absent : under digest (rows_of s) ≡ []
-  pub added : IsAdded s t entry
+  pub spoiled : All (λ e. ¬ IsWhole e) (under digest (rows_of s))
+  pub added : IsReplaced s t digest entry
 
 -- the entry was there, alone under its digest, and nothing changed
 pub record IsKnown (s t : State) (digest : List ℕ) (entry : Row) : Type 0 where
@@ -93,9 +106,12 @@ pub record IsKnown (s t : State) (digest : List ℕ) (entry : Row) : Type 0 wher
   pub alone : All (λ e. e ≡ entry) (under digest (rows_of s))
   pub same : IsUnchanged s t
 
--- another entry is there under the digest
+-- of some entries another one is there under the digest, and one that has its bytes
+abbrev pub IsTaken : List ℕ → Row → List Row → Type 0
+IsTaken digest entry all = Any (λ e. e ≢ entry) (among digest all) × Any IsWhole (among digest all)
+
 abbrev pub HasOther : List Row → List ℕ → Row → Type 0
-HasOther rows digest entry = Any (λ e. e ≢ entry) (under digest rows)
+HasOther rows digest entry = IsTaken digest entry (entries rows)
 
 -- the database is as it was, unless a failure of the disk closed it
 abbrev pub KeepsAll : State → State → Type 0
@@ -112,13 +128,6 @@ IsNotDone why text params s t = (e : Error) × (fault_of e ≡ Store why) × Exe
 -- the table does not stand alone, of which no more is told
 abbrev pub IsUnready : StoreCause → State → Type 0
 IsUnready why s = (why ≡ Other) × (¬ IsReady s)
-
--- a put was refused: the table does not stand alone, or the database refused to look, or to insert after that
-abbrev pub IsNotKept : {S : Type 0} → Ghosts S → StoreCause → Held S → Held S → List ℕ → Row → Type 0
-IsNotKept {S} g why old new digest entry =
-    IsUnready why (state g old) ⊎ (IsNotShown why held_text (Text digest ∷ []) (state g old) (state g new)
-    ⊎ ((mid : Held S) × IsUnchanged (state g old) (state g mid) × IsNotDone why insert_text entry (state g mid)
-    (state g new)))
 
 -- no table is there, and no transaction is open
 pub record IsBare (s : State) : Type 0 where

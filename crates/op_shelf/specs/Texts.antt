@@ -8,6 +8,15 @@ create_text =
 abbrev pub insert_text : List ℕ
 insert_text = codes "INSERT INTO ops2 (digest, kind, body) VALUES (?1, ?2, ?3)"
 
+abbrev pub ids_text : List ℕ
+ids_text = codes "SELECT rowid FROM ops2 WHERE digest = ?1"
+
+abbrev pub rowid_text : List ℕ
+rowid_text = codes "SELECT rowid FROM ops2 WHERE rowid = ?1"
+
+abbrev pub delete_text : List ℕ
+delete_text = codes "DELETE FROM ops2 WHERE digest = ?1"
+
 abbrev pub all_text : List ℕ
 all_text = codes "SELECT digest, kind, body FROM ops2"
 

@@ -5,6 +5,7 @@
 //! disk returns what was written.
 #![tactic(auto)]
 
+mod clearing;
 mod damaged;
 mod fault;
 mod group;
@@ -14,7 +15,7 @@ mod loading;
 mod migration;
 mod open;
 mod order;
-mod recording;
+mod readable;
 mod rows;
 mod schema;
 mod shelf;
@@ -28,5 +29,6 @@ pub use fault::{ShelfFault, StoreCause};
 pub use keep::Keep;
 pub use kept::Kept;
 pub use open::make_ready;
+pub use readable::Readable;
 pub use shelf::Shelf;
 pub use walk::limits_are_these;

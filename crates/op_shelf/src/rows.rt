@@ -8,16 +8,17 @@ ghost use Rattle.sqlite.specs.Order.{column};
 ghost use Rattle.operation.specs.Reading.{IsOp};
 ghost use Rattle.operation.specs.Spelling.{spelling};
 ghost use Rattle.operation.specs.declared.op.Op.{Op};
-ghost use Rattle.op_shelf.specs.Entries.{kind_in, digest_text, entry_by, entry_of, IsEntry};
+ghost use Rattle.op_shelf.specs.Entries.{kind_in, digest_text, entry_by, entry_of, IsEntry, IsWhole};
 ghost use Rattle.op_shelf.specs.Fault.{IsNoStore};
 ghost use Rattle.op_shelf.specs.Older.{IsPair};
 
 use crate::fault::ShelfFault;
 use bytes::Bytes;
-use operation::{Digested, Op, decode, digest};
+use operation::{Digest, Digested, Op, decode, digest};
+use sha2::{Digest as Hashing, Sha256};
 use sqlite::Row;
 use sqlite::types::{ToSql, ValueRef};
-use std::alloc::Global;
+use std::alloc::{AllocError, Global};
 
 /// The kind of the operation that bytes spell: the first of them.
 pub(crate) fn kind_of(body: &[u8]) -> u8
@@ -90,21 +91,69 @@ fn is_headed(entry: &Row, digest: &[u8], body: &[u8]) -> bool
     has_kind(entry, 1, kind_of(body))
 }
 
-/// Whether an entry is there: `BadRow` where another one is.
-pub(crate) fn find_in(rows: &[Row], digest: &[u8], body: &[u8]) -> Result<bool, ShelfFault>
-    ensures absent { result ≡ Ok false → rows.now ≡ [] }
-    ensures found { result ≡ Ok true → 0 < length rows.now }
-    ensures alone { result ≡ Ok true → All (λ e. e ≡ entry_by digest.now body.now) rows.now }
-    ensures other { IsErrOf result ShelfFault.BadRow
-        → Any (λ e. e ≢ entry_by digest.now body.now) rows.now }
-    ensures only { IfErr result IsNoStore }
+/// Whether an entry has the bytes of its digest, which are hashed here.
+fn is_whole(alloc: Global, entry: &Row) -> Result<bool, AllocError>
+    ensures { IfOk result (λ whole. IsTrue whole ↔ IsWhole entry.now) }
+{
+    if entry.column_count() != 3 {
+        return Ok(false);
+    }
+    let Some(body) = blob_at(entry, 2) else {
+        return Ok(false);
+    };
+    let text = Digest::of(Sha256::digest(body)).text(alloc)?;
+    Ok(is_headed(entry, text.as_bytes(), body))
+}
+
+/// Whether one of some entries has the bytes of its digest.
+fn has_whole(alloc: Global, rows: &[Row]) -> Result<bool, ShelfFault>
+    ensures none { result ≡ Ok false → All (λ e. ¬ IsWhole e) rows.now }
+    ensures some { result ≡ Ok true → Any IsWhole rows.now }
+    ensures memory { IfErr result (λ fault. fault ≡ ShelfFault.Memory) }
+{
+    for row in rows {
+        if is_whole(alloc, row)? {
+            return Ok(true);
+        }
+    }
+    Ok(false)
+}
+
+/// Whether all of some entries are that of a digest and these bytes.
+fn are_entry(rows: &[Row], digest: &[u8], body: &[u8]) -> bool
+    ensures all { IsTrue result → All (λ e. e ≡ entry_by digest.now body.now) rows.now }
+    ensures other { result ≡ false → Any (λ e. e ≢ entry_by digest.now body.now) rows.now }
 {
     for row in rows {
         if !is_entry(row, digest, body) {
-            return Err(ShelfFault::BadRow);
+            return false;
         }
     }
-    Ok(!rows.is_empty())
+    true
+}
+
+/// Whether an entry is there, and not where those that are there have not the bytes of their
+/// digest: `BadRow` where another one has them.
+pub(crate) fn find_in(
+    alloc: Global,
+    rows: &[Row],
+    digest: &[u8],
+    body: &[u8],
+) -> Result<bool, ShelfFault>
+    ensures spoiled { result ≡ Ok false → All (λ e. ¬ IsWhole e) rows.now }
+    ensures found { result ≡ Ok true → 0 < length rows.now }
+    ensures alone { result ≡ Ok true → All (λ e. e ≡ entry_by digest.now body.now) rows.now }
+    ensures other { IsErrOf result ShelfFault.BadRow
+        → Any (λ e. e ≢ entry_by digest.now body.now) rows.now × Any IsWhole rows.now }
+    ensures only { IfErr result IsNoStore }
+{
+    if are_entry(rows, digest, body) {
+        return Ok(!rows.is_empty());
+    }
+    if has_whole(alloc, rows)? {
+        return Err(ShelfFault::BadRow);
+    }
+    Ok(false)
 }
 
 fn body_in(entry: &Row) -> Option<&[u8]>

@@ -21,7 +21,7 @@ use crate::fault::{ShelfFault, StoreCause};
 use crate::group::put_group;
 use crate::kept::Kept;
 use crate::loading::{load_op, read_op};
-use crate::recording::all_records;
+use crate::readable::all_records;
 use crate::statements::kind_rows;
 use crate::table::{is_ready, put_entry};
 use crate::walk::all_ops;
@@ -75,14 +75,15 @@ impl<S: Alter> Shelf<S> {
         self.put_digested(&digested)
     }
 
-    /// Puts an operation on the shelf under the digest that it has, and syncs it. Nothing is
-    /// hashed. The data set is copied once, into the spelling that is stored.
+    /// Puts an operation on the shelf under the digest that it has, and syncs it. It mends a row
+    /// there whose bytes have not the digest: it is put in its place, and New. Nothing but such a
+    /// row is hashed. The data set is copied once, into the spelling that is stored.
     pub fn put_digested(&mut self, op: &Digested) -> Result<Kept, ShelfFault>
         ensures { PutsEntry S.Store self.old self.new (digest_text op.now) (entry_of op.now) result }
     {
         let name = op.digest().text(self.alloc)?;
         let body = encode(self.alloc, op.op())?;
-        put_entry(&mut self.database, name.as_str(), &body)
+        put_entry(&mut self.database, self.alloc, name.as_str(), &body)
     }
 
     /// Puts a group of operations on the shelf, one after another, in one transaction, and syncs it

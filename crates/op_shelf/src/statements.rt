@@ -1,17 +1,16 @@
 //! The statements on the table. Each function makes one call of the database.
 
 ghost use Rattle.std.specs.Prelude.{◌≡◌, ◌∷◌, [], pos, length, false, IfOk, IfErr, OnOk, OnErr, Err, IsPermutation};
-ghost use Rattle.sqlite.specs.declared.types.Value.TheVariants.{Int, Text, Blob};
+ghost use Rattle.sqlite.specs.declared.types.Value.TheVariants.{Int, Text};
 ghost use Rattle.sqlite.specs.Given.{IsPlain};
 ghost use Rattle.sqlite.specs.Held.{state};
 ghost use Rattle.sqlite.specs.Listing.{understood};
 ghost use Rattle.sqlite.specs.State.{HasCleanDisk, IsUnchanged, Survives, Shown, FailsToQuery, Executes};
 ghost use Rattle.sqlite.specs.Values.{bound};
-ghost use Rattle.op_shelf.specs.Entries.{Adds};
 ghost use Rattle.op_shelf.specs.Older.{older_schema, pairs};
-ghost use Rattle.op_shelf.specs.States.{rows_of, rows_left, IfClean, Spares, under, count_of, IsAdded, IsBare, IsMade};
+ghost use Rattle.op_shelf.specs.States.{rows_of, IfClean, Spares, under, count_of, IsBare, IsMade};
 ghost use Rattle.op_shelf.specs.Table.{IsShelf};
-ghost use Rattle.op_shelf.specs.Texts.{create_text, held_text, kind_text, insert_text, older_text};
+ghost use Rattle.op_shelf.specs.Texts.{create_text, held_text, kind_text, older_text};
 
 use sqlite::types::ValueRef;
 use sqlite::{Alter, Connection, Error, Row, params};
@@ -67,6 +66,8 @@ pub(crate) fn held_rows<S: Alter>(
     ensures refused { IfClean S.Store database.old database.new (λ s t. OnErr result (Spares s t)) }
     ensures cause { IfClean S.Store database.old database.new (λ s t.
         IfErr result (FailsToQuery held_text (Text digest.now ∷ []) s t)) }
+    ensures mode { (state S.Store database.old).in_transaction ≡ false
+        → (state S.Store database.new).in_transaction ≡ false }
     ensures crash { Survives (state S.Store database.old) (state S.Store database.new) (λ _. ⊥) }
 {
     select(
@@ -92,32 +93,6 @@ pub(crate) fn kind_rows<S: Alter>(database: &mut Connection<S>, kind: u8) -> Res
         database,
         "SELECT kind FROM ops2 WHERE kind = ?1",
         params![u32::from(kind)],
-    )
-}
-
-/// Adds an entry, and commits it.
-pub(crate) fn insert<S: Alter>(
-    database: &mut Connection<S>,
-    digest: &str,
-    kind: u8,
-    body: &[u8],
-) -> Result<usize, Error>
-    requires shelf { HasCleanDisk (state S.Store database.old)
-        → IsShelf (state S.Store database.old).now.schema }
-    requires alone { HasCleanDisk (state S.Store database.old)
-        → (state S.Store database.old).in_transaction ≡ false }
-    ensures added { IfClean S.Store database.old database.new (λ s t.
-        OnOk result (IsAdded s t (Text digest.now ∷ Int (pos kind) ∷ Blob body.now ∷ []))) }
-    ensures refused { IfClean S.Store database.old database.new (λ s t. OnErr result (Spares s t)) }
-    ensures cause { IfClean S.Store database.old database.new (λ s t. IfErr result (λ e.
-        Executes insert_text (Text digest.now ∷ Int (pos kind) ∷ Blob body.now ∷ []) s t (Err e))) }
-    ensures crash { Survives (state S.Store database.old) (state S.Store database.new) (λ trees.
-        Adds (rows_of (state S.Store database.old)) (rows_left (state S.Store database.old) trees)
-        (Text digest.now ∷ Int (pos kind) ∷ Blob body.now ∷ [])) }
-{
-    database.execute(
-        "INSERT INTO ops2 (digest, kind, body) VALUES (?1, ?2, ?3)",
-        params![digest, u32::from(kind), body],
     )
 }
 

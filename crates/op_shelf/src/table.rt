@@ -1,25 +1,25 @@
 //! A put into the table, over any connection.
 
-ghost use Rattle.std.specs.Prelude.{◌≡◌, ◌≢◌, ◌↔◌, ◌∷◌, [], IfErr, true, false, Ok, Err, IsErrOf, OnOk, OnErr};
-ghost use Rattle.std.specs.Prelude.{Contains, IsTrue};
+ghost use Rattle.std.specs.Prelude.{◌≡◌, ◌↔◌, ◌∷◌, [], true, false, All, Ok, IsErrOf, IsTrue, OnOk, OnErr};
 ghost use Rattle.sqlite.specs.declared.types.Value.TheVariants.{Text};
 ghost use Rattle.sqlite.specs.Held.{state};
-ghost use Rattle.sqlite.specs.State.{HasCleanDisk, IsUnchanged, Survives};
-ghost use Rattle.op_shelf.specs.Entries.{entry_by, Adds};
+ghost use Rattle.sqlite.specs.State.{IsUnchanged, Survives};
+ghost use Rattle.op_shelf.specs.Entries.{IsWhole, entry_by};
 ghost use Rattle.op_shelf.specs.Fault.{IfStore};
 ghost use Rattle.op_shelf.specs.Migration.{IsOlder};
 ghost use Rattle.op_shelf.specs.Putting.{PutsEntry};
-ghost use Rattle.op_shelf.specs.States.{IfClean, IsReady, IsKnown, HasOther, Spares, IsNotShown, IsNotDone, IsAdded};
-ghost use Rattle.op_shelf.specs.States.{IsBare, under, rows_of, rows_left};
+ghost use Rattle.op_shelf.specs.States.{IfClean, IsBare, IsReady, IsKnown, HasOther, Spares, IsNotShown, under, rows_of};
 ghost use Rattle.op_shelf.specs.Table.{IsShelf};
-ghost use Rattle.op_shelf.specs.Texts.{held_text, insert_text};
+ghost use Rattle.op_shelf.specs.Texts.{held_text};
 
 use crate::fault::{ShelfFault, StoreCause};
+use crate::group::replace_alone;
 use crate::kept::Kept;
-use crate::rows::{find_in, kind_of};
+use crate::rows::find_in;
 use crate::schema::{is_bare, is_older, is_shelf};
-use crate::statements::{held_rows, insert};
+use crate::statements::held_rows;
 use sqlite::{Alter, Connection};
+use std::alloc::Global;
 
 /// Whether the table stands alone and no transaction is open. A failure of the disk may have closed
 /// the database, and then nothing is known of its schema.
@@ -46,12 +46,13 @@ pub(crate) fn is_aged<S: Alter>(database: &Connection<S>) -> bool
 /// Whether an entry is there.
 fn find<S: Alter>(
     database: &mut Connection<S>,
+    alloc: Global,
     digest: &str,
     body: &[u8],
 ) -> Result<bool, ShelfFault>
     requires shelf { IsShelf (state S.Store database.old).now.schema }
-    ensures absent { IfClean S.Store database.old database.new (λ s t.
-        result ≡ Ok false → under digest.now (rows_of s) ≡ []) }
+    ensures spoiled { IfClean S.Store database.old database.new (λ s t.
+        result ≡ Ok false → All (λ e. ¬ IsWhole e) (under digest.now (rows_of s))) }
     ensures known { IfClean S.Store database.old database.new (λ s t.
         result ≡ Ok true → IsKnown s t digest.now (entry_by digest.now body.now)) }
     ensures other { IfClean S.Store database.old database.new (λ s t.
@@ -60,37 +61,20 @@ fn find<S: Alter>(
     ensures same { IfClean S.Store database.old database.new (λ s t.
         OnOk result (IsUnchanged s t)) }
     ensures refused { IfClean S.Store database.old database.new (λ s t. OnErr result (Spares s t)) }
+    ensures mode { (state S.Store database.old).in_transaction ≡ false
+        → (state S.Store database.new).in_transaction ≡ false }
     ensures store { IfClean S.Store database.old database.new (λ s t.
         IfStore result (λ why. IsNotShown why held_text (Text digest.now ∷ []) s t)) }
     ensures crash { Survives (state S.Store database.old) (state S.Store database.new) (λ _. ⊥) }
 {
     let held = held_rows(database, digest)?;
-    find_in(&held, digest.as_bytes(), body)
+    find_in(alloc, &held, digest.as_bytes(), body)
 }
 
-/// Adds an entry, and commits it.
-fn add<S: Alter>(database: &mut Connection<S>, digest: &str, body: &[u8]) -> Result<(), ShelfFault>
-    requires shelf { HasCleanDisk (state S.Store database.old)
-        → IsShelf (state S.Store database.old).now.schema }
-    requires alone { HasCleanDisk (state S.Store database.old)
-        → (state S.Store database.old).in_transaction ≡ false }
-    ensures added { IfClean S.Store database.old database.new (λ s t.
-        OnOk result (IsAdded s t (entry_by digest.now body.now))) }
-    ensures refused { IfClean S.Store database.old database.new (λ s t. OnErr result (Spares s t)) }
-    ensures store { IfClean S.Store database.old database.new (λ s t.
-        IfStore result (λ why. IsNotDone why insert_text (entry_by digest.now body.now) s t)) }
-    ensures only { IfErr result (λ e. e ≢ ShelfFault.BadRow) }
-    ensures crash { Survives (state S.Store database.old) (state S.Store database.new) (λ trees.
-        Adds (rows_of (state S.Store database.old)) (rows_left (state S.Store database.old) trees)
-        (entry_by digest.now body.now)) }
-{
-    insert(database, digest, kind_of(body), body)?;
-    Ok(())
-}
-
-/// Puts an entry where none is under its digest.
+/// Puts an entry where none that has the bytes of its digest is there.
 pub(crate) fn put_entry<S: Alter>(
     database: &mut Connection<S>,
+    alloc: Global,
     digest: &str,
     body: &[u8],
 ) -> Result<Kept, ShelfFault>
@@ -100,9 +84,9 @@ pub(crate) fn put_entry<S: Alter>(
     if !is_ready(database) {
         return Err(ShelfFault::Store(StoreCause::Other));
     }
-    if find(database, digest, body)? {
+    if find(database, alloc, digest, body)? {
         return Ok(Kept::Known);
     }
-    add(database, digest, body)?;
+    replace_alone(database, digest.as_bytes(), body)?;
     Ok(Kept::New)
 }

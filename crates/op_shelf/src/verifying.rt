@@ -1,6 +1,6 @@
 //! Tests each row against the digest under which it stands.
 
-ghost use Rattle.std.specs.Prelude.{◌≡◌, ◌⊎◌, [], IfOk, IfErr, IsErrOf, OnOk, OnErr, IsSorted};
+ghost use Rattle.std.specs.Prelude.{◌≡◌, ◌⊎◌, ◌++◌, ◌∷◌, [], IfOk, IfErr, IsErrOf, OnOk, OnErr, IsSorted};
 ghost use Rattle.sqlite.specs.Held.{state};
 ghost use Rattle.sqlite.specs.Order.{column};
 ghost use Rattle.sqlite.specs.State.{HasCleanDisk, IsUnchanged, Survives};
@@ -48,6 +48,20 @@ fn told_of(alloc: Global, entry: &Row) -> Result<Damaged, AllocError>
     Damaged::of(alloc, text_of(entry), bytes_of(entry))
 }
 
+/// Tells of an entry behind others.
+pub(crate) fn tell_one(
+    alloc: Global,
+    entry: &Row,
+    damaged: &mut Vec<Damaged>,
+) -> Result<(), ShelfFault>
+    ensures told { OnOk result
+        (damaged.new.items ≡ damaged.old.items ++ damage_of entry.now ∷ []) }
+    ensures memory { IfErr result (λ fault. fault ≡ ShelfFault.Memory) }
+{
+    damaged.push(told_of(alloc, entry)?)?;
+    Ok(())
+}
+
 /// Tests an entry, and tells of it behind others where it is none of an operation.
 fn test_one(alloc: Global, entry: &Row, damaged: &mut Vec<Damaged>) -> Result<(), ShelfFault>
     ensures tested { OnOk result (IsTested entry.now damaged.old.items damaged.new.items) }
@@ -56,10 +70,7 @@ fn test_one(alloc: Global, entry: &Row, damaged: &mut Vec<Damaged>) -> Result<()
 {
     match op_of(alloc, entry) {
         Ok(_) => Ok(()),
-        Err(ShelfFault::BadRow) => {
-            damaged.push(told_of(alloc, entry)?)?;
-            Ok(())
-        }
+        Err(ShelfFault::BadRow) => tell_one(alloc, entry, damaged),
         Err(fault) => Err(fault),
     }
 }

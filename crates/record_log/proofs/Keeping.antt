@@ -3,6 +3,7 @@ use Rattle.std.proofs.Common.{◌≡◌, ◌+◌, ◌<◌, inl, inr, ℕ, List, 
 use Rattle.std.proofs.lemmas.List.{append-nil, map-append}
 use Rattle.std.proofs.lemmas.List.Elements.{filter_more}
 use Rattle.sqlite_disk.specs.declared.Disk.{Ghosts}
+use Rattle.head_log.specs.declared.gate.Gate.{Gate}
 use Rattle.head_log.specs.Groups.{IsReady}
 use Rattle.head_log.specs.Groups.{LeavesEither as LeavesGroups, StandsFor as HasGroups}
 use Rattle.head_log.proofs.Laying.{joined_more}
@@ -41,7 +42,7 @@ texts_more groups more text is =
 
 module _ {D : Type 0} (g : Ghosts D) where
   -- a group that was added is kept behind those from before
-  pub kept_more : (old new : D) (end next : ℕ) (cs more : List ContentParts) (text : List ℕ) → text ≡ entries_text more
+  pub kept_more : (old new : D) (end next : Gate) (cs more : List ContentParts) (text : List ℕ) → text ≡ entries_text more
       → AreEachTold more
       → ((groups : List (List ℕ)) → IsReady g old end groups → IsReady g new next (groups ++ text ∷ []))
       → AreKept g old end cs → AreKept g new next (cs ++ more)
@@ -55,7 +56,7 @@ module _ {D : Type 0} (g : Ghosts D) where
       }
 
   -- where there is none, all stay
-  pub kept_same : (disk : D) (end : ℕ) (cs more : List ContentParts) (text : List ℕ) → text ≡ entries_text more
+  pub kept_same : (disk : D) (end : Gate) (cs more : List ContentParts) (text : List ℕ) → text ≡ entries_text more
       → length text ≡ 0 → AreKept g disk end cs → AreKept g disk end (cs ++ more)
   kept_same disk end cs more text is none kept =
       let empty = none_told more (ap length (sym is) ∙ none) in
@@ -63,7 +64,7 @@ module _ {D : Type 0} (g : Ghosts D) where
       subst (λ (xs : List ContentParts). AreKept g disk end xs) (sym same) kept
 
   -- a refusal that leaves the file open leaves it so
-  pub kept_on : (old new : D) (end next : ℕ) (cs : List ContentParts)
+  pub kept_on : (old new : D) (end next : Gate) (cs : List ContentParts)
       → ((groups : List (List ℕ)) → IsReady g old end groups → IsReady g new next groups) → AreKept g old end cs
       → AreKept g new next cs
   kept_on old new end next cs ready kept =
@@ -75,13 +76,13 @@ module _ {D : Type 0} (g : Ghosts D) where
       }
 
   -- a crash leaves what is kept
-  pub stands : (disk : D) (end : ℕ) (cs : List ContentParts) (file : List ℕ) → AreKept g disk end cs
+  pub stands : (disk : D) (end : Gate) (cs : List ContentParts) (file : List ℕ) → AreKept g disk end cs
       → g.may_leave disk file → StandsFor file cs
   stands disk end cs file kept may =
       record { groups = kept.groups; are = kept.are; laid = inl (end, kept.ready file may); told = kept.told }
 
   -- or it with a group
-  pub leaves_either : (old new : D) (end : ℕ) (cs more : List ContentParts) (text : List ℕ) → text ≡ entries_text more
+  pub leaves_either : (old new : D) (end : Gate) (cs more : List ContentParts) (text : List ℕ) → text ≡ entries_text more
       → AreEachTold more → ((groups : List (List ℕ)) → IsReady g old end groups → LeavesGroups g new groups text)
       → AreKept g old end cs → LeavesEither g new cs (cs ++ more)
   leaves_either old new end cs more text is told leaves kept file may =
@@ -98,7 +99,7 @@ module _ {D : Type 0} (g : Ghosts D) where
       ]
 
   -- a file that is opened keeps what it stood for
-  pub opened : (file : List ℕ) (disk : D) (end : ℕ) (cs : List ContentParts)
+  pub opened : (file : List ℕ) (disk : D) (end : Gate) (cs : List ContentParts)
       → ((groups : List (List ℕ)) → HasGroups file groups → IsReady g disk end groups) → StandsFor file cs
       → AreKept g disk end cs
   opened file disk end cs ready stands =

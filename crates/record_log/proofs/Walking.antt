@@ -5,7 +5,8 @@ use Rattle.std.specs.Result.{IsErrAnd}
 use Rattle.std.proofs.lemmas.List.{append-nil, length-append, map-append}
 use Rattle.std.proofs.lemmas.List.Concat.{flat_map-append}
 use Rattle.sqlite_disk.specs.Disk.{MoreFaults}
-use Rattle.head_log.specs.Groups.{IsGroupAt, Laid, joined}
+use Rattle.head_log.specs.declared.gate.Gate.{Gate}
+use Rattle.head_log.specs.Groups.{IsGroupAt, Laid, first_gate, gate_after, joined}
 use Rattle.head_log.specs.Fault.{CountsDisk}
 use Rattle.head_log.specs.declared.fault.HeadFault.{HeadFault}
 use Rattle.head_log.specs.declared.fault.HeadFault.TheVariants.{Disk}
@@ -15,15 +16,16 @@ use Rattle.operation.specs.Parts.{ContentParts}
 use Rattle.record_log.specs.Entries.{AreEachTold, AreTold, HasEntries, WereRead, entries_text, with_lengths}
 use Rattle.record_log.proofs.Cutting.{told_front, told_behind}
 
--- These are some contents, in their order, and the groups from an offset on have the others.
-pub record AreBehind (file : List ℕ) (at end : ℕ) (cs got : List ContentParts) : Type 0 where
+-- These are some contents, in their order, and the groups from a gate on have the others.
+pub record AreBehind (file : List ℕ) (gate end : Gate) (cs got : List ContentParts) : Type 0 where
   pub groups : List (List ContentParts)
   pub are : cs ≡ got ++ joined groups
-  pub laid : Laid file at (map entries_text groups) end
+  pub laid : Laid file gate (map entries_text groups) end
   pub told : AreEachTold (joined groups)
 
 -- at first all are behind
-pub all_behind : (file : List ℕ) (end : ℕ) (cs : List ContentParts) → AreTold file end cs → AreBehind file 0 end cs []
+pub all_behind : (file : List ℕ) (end : Gate) (cs : List ContentParts) → AreTold file end cs
+    → AreBehind file first_gate end cs []
 all_behind file end cs all =
     record {
       groups = all.groups;
@@ -33,52 +35,56 @@ all_behind file end cs all =
     }
 
 -- at the end none is
-pub none_behind : (file : List ℕ) (at end : ℕ) (cs got : List ContentParts) → AreBehind file at end cs got → end ≤ at
-    → got ≡ cs
-none_behind file at end cs got left high = by left.groups left.are left.laid
+pub none_behind : (file : List ℕ) (gate end : Gate) (cs got : List ContentParts) → AreBehind file gate end cs got
+    → end.at ≤ gate.at → got ≡ cs
+none_behind file gate end cs got left high = by left.groups left.are left.laid
   where
-    by : (groups : List (List ContentParts)) → cs ≡ got ++ joined groups → Laid file at (map entries_text groups) end
+    by : (groups : List (List ContentParts)) → cs ≡ got ++ joined groups → Laid file gate (map entries_text groups) end
         → got ≡ cs
     by [] are laid = sym (are ∙ append-nil got)
     by (g ∷ groups) are (here, rest) =
-        let up = laid_up file (at + 41 + length (entries_text g)) (map entries_text groups) end rest in
+        let up = laid_up file (gate_after gate (entries_text g)) (map entries_text groups) end rest in
         absurd (omega (arith, up, high))
 
 -- before it a group stands here
-pub record Here (file : List ℕ) (at end : ℕ) : Type 0 where
+pub record Here (file : List ℕ) (gate end : Gate) : Type 0 where
   pub group : List ℕ
-  pub stands : IsGroupAt file at group
-  pub within : at + 41 + length group ≤ end
+  pub stands : IsGroupAt file gate group
+  pub within : gate.at + 48 + length group ≤ end.at
 
-pub group_here : (file : List ℕ) (at end : ℕ) (cs got : List ContentParts) → AreBehind file at end cs got → at < end
-    → Here file at end
-group_here file at end cs got left low = by left.groups left.laid
+pub group_here : (file : List ℕ) (gate end : Gate) (cs got : List ContentParts) → AreBehind file gate end cs got
+    → gate.at < end.at → Here file gate end
+group_here file gate end cs got left low = by left.groups left.laid
   where
-    by : (groups : List (List ContentParts)) → Laid file at (map entries_text groups) end → Here file at end
-    by [] laid = absurd (omega (arith, laid, low))
+    by : (groups : List (List ContentParts)) → Laid file gate (map entries_text groups) end → Here file gate end
+    by [] laid =
+        let same = ap (λ (g : Gate). g.at) laid in
+        absurd (omega (arith, same, low))
     by (g ∷ groups) (here, rest) =
         record {
           group = entries_text g;
           stands = here;
-          within = laid_up file (at + 41 + length (entries_text g)) (map entries_text groups) end rest;
+          within = laid_up file (gate_after gate (entries_text g)) (map entries_text groups) end rest;
         }
 
 -- the one that was read has the entries of the next contents
-pub record NextGroup (file group : List ℕ) (at end : ℕ) (cs got : List ContentParts) : Type 0 where
+pub record NextGroup (file group : List ℕ) (gate end : Gate) (cs got : List ContentParts) : Type 0 where
   pub first : List ContentParts
   pub text : group ≡ entries_text first
   pub told : AreEachTold first
-  pub left : AreBehind file (at + 41 + length group) end cs (got ++ first)
+  pub left : AreBehind file (gate_after gate group) end cs (got ++ first)
 
-pub next_group : (file group : List ℕ) (at end : ℕ) (cs got : List ContentParts) → AreBehind file at end cs got
-    → at < end → IsGroupAt file at group → NextGroup file group at end cs got
-next_group file group at end cs got left low it = by left.groups left.are left.laid left.told
+pub next_group : (file group : List ℕ) (gate end : Gate) (cs got : List ContentParts) → AreBehind file gate end cs got
+    → gate.at < end.at → IsGroupAt file gate group → NextGroup file group gate end cs got
+next_group file group gate end cs got left low it = by left.groups left.are left.laid left.told
   where
-    by : (groups : List (List ContentParts)) → cs ≡ got ++ joined groups → Laid file at (map entries_text groups) end
-        → AreEachTold (joined groups) → NextGroup file group at end cs got
-    by [] are laid told = absurd (omega (arith, laid, low))
+    by : (groups : List (List ContentParts)) → cs ≡ got ++ joined groups → Laid file gate (map entries_text groups) end
+        → AreEachTold (joined groups) → NextGroup file group gate end cs got
+    by [] are laid told =
+        let same = ap (λ (g : Gate). g.at) laid in
+        absurd (omega (arith, same, low))
     by (g ∷ groups) are (here, rest) told =
-        let same = one_group file at group (entries_text g) it here in
+        let same = one_group file gate group (entries_text g) it here in
         record {
           first = g;
           text = same;
@@ -86,7 +92,7 @@ next_group file group at end cs got left low it = by left.groups left.are left.l
           left = record {
             groups = groups;
             are = are ∙ sym (append_assoc got g (joined groups));
-            laid = subst (λ (text : List ℕ). Laid file (at + 41 + length text) (map entries_text groups) end)
+            laid = subst (λ (text : List ℕ). Laid file (gate_after gate text) (map entries_text groups) end)
                 (sym same) rest;
             told = told_behind g (joined groups) told;
           };
@@ -94,18 +100,30 @@ next_group file group at end cs got left low it = by left.groups left.are left.l
 
 -- ---- entries, whatever they tell
 
+-- the groups up to a gate have so many
+pub record HasEntriesTo (file : List ℕ) (gate : Gate) (count : ℕ) : Type 0 where
+  pub groups : List (List (List ℕ))
+  pub laid : Laid file first_gate (map with_lengths groups) gate
+  pub count_is : count ≡ length (joined groups)
+
+-- that gate stands where all groups end
+pub entries_all : (file : List ℕ) (gate : Gate) (end count : ℕ) → HasEntriesTo file gate count → gate.at ≡ end
+    → HasEntries file end count
+entries_all file gate end count has place =
+    record { groups = has.groups; last = gate; laid = has.laid; place = place; count_is = has.count_is }
+
 -- one group more was read
-pub entries_on : (file group : List ℕ) (at : ℕ) (old new : List ContentParts) → HasEntries file at (length old)
-    → IsGroupAt file at group → WereRead group old new → HasEntries file (at + 41 + length group) (length new)
-entries_on file group at old new has here read =
-    let laid = laid_more file 0 (map with_lengths has.groups) at group has.laid here in
+pub entries_on : (file group : List ℕ) (gate : Gate) (old new : List ContentParts) → HasEntriesTo file gate (length old)
+    → IsGroupAt file gate group → WereRead group old new → HasEntriesTo file (gate_after gate group) (length new)
+entries_on file group gate old new has here read =
+    let laid = laid_more file first_gate (map with_lengths has.groups) gate group has.laid here in
     let texts = ap (λ (t : List ℕ). map with_lengths has.groups ++ t ∷ []) read.is
     ∙ sym (map-append with_lengths has.groups (read.texts ∷ [])) in
     let whole = flat_map-append (λ (g : List (List ℕ)). g) has.groups (read.texts ∷ []) in
     let many = ap length whole in
     record {
       groups = has.groups ++ read.texts ∷ [];
-      laid = subst (λ (ts : List (List ℕ)). Laid file 0 ts (at + 41 + length group)) texts laid;
+      laid = subst (λ (ts : List (List ℕ)). Laid file first_gate ts (gate_after gate group)) texts laid;
       count_is = omega (
         arith,
         many,

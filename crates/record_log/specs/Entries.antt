@@ -2,7 +2,8 @@
 use Rattle.std.specs.Prelude.{◌≡◌, ◌⊎◌, ◌+◌, ◌<◌, ◌^◌, ℕ, List, [], ◌∷◌, ◌++◌, length, map, filter, Bool, not, is_some, None}
 use Rattle.std.specs.Int.{w64, to_be_bytes}
 use Rattle.sqlite_disk.specs.declared.Disk.{Ghosts}
-use Rattle.head_log.specs.Groups.{IsReady, Laid, joined}
+use Rattle.head_log.specs.declared.gate.Gate.{Gate}
+use Rattle.head_log.specs.Groups.{IsReady, Laid, first_gate, joined}
 use Rattle.head_log.specs.Groups.{StandsFor as HasGroups}
 use Rattle.operation.specs.Parts.{ContentParts}
 use Rattle.operation.specs.RecordParts.{content_record}
@@ -48,15 +49,15 @@ has_no_note c = not (is_some c.note)
 abbrev pub without_notes : List ContentParts → List ContentParts
 without_notes cs = filter has_no_note cs
 
--- the groups of a file, up to an offset, tell these contents, in this order
-pub record AreTold (file : List ℕ) (end : ℕ) (cs : List ContentParts) : Type 0 where
+-- the groups of a file, up to a gate, tell these contents, in this order
+pub record AreTold (file : List ℕ) (end : Gate) (cs : List ContentParts) : Type 0 where
   pub groups : List (List ContentParts)
   pub are : joined groups ≡ cs
-  pub laid : Laid file 0 (map entries_text groups) end
+  pub laid : Laid file first_gate (map entries_text groups) end
   pub told : AreEachTold cs
 
 -- and so do those of whatever a crash leaves of it
-pub record AreKept {D : Type 0} (g : Ghosts D) (disk : D) (end : ℕ) (cs : List ContentParts) : Type 0 where
+pub record AreKept {D : Type 0} (g : Ghosts D) (disk : D) (end : Gate) (cs : List ContentParts) : Type 0 where
   pub groups : List (List ContentParts)
   pub are : joined groups ≡ cs
   pub ready : IsReady g disk end (map entries_text groups)
@@ -71,7 +72,9 @@ pub record WereRead (text : List ℕ) (old new : List ContentParts) : Type 0 whe
 -- the groups of a file, up to an offset, have so many entries, whatever these tell
 pub record HasEntries (file : List ℕ) (end count : ℕ) : Type 0 where
   pub groups : List (List (List ℕ))
-  pub laid : Laid file 0 (map with_lengths groups) end
+  pub last : Gate
+  pub laid : Laid file first_gate (map with_lengths groups) last
+  pub place : last.at ≡ end
   pub count_is : count ≡ length (joined groups)
 
 -- a file stands for these contents: its groups are all that tell them

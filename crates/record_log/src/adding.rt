@@ -3,7 +3,7 @@
 ghost use Rattle.std.specs.Prelude.{◌≡◌, ◌++◌, ◌⊎◌, ◌<◌, ◌≤◌, ◌^◌, List, false, length, IfErr, IfOk, IsErrOf};
 ghost use Rattle.std.specs.Prelude.{IsTrue, OnErr, OnOk};
 ghost use Rattle.head_log.specs.Fault.{CountsDisk};
-ghost use Rattle.head_log.specs.Log.{disk_of, end_of, is_up};
+ghost use Rattle.head_log.specs.Log.{disk_of, end_of, gate_of, is_up};
 ghost use Rattle.operation.specs.Parts.{ContentParts};
 ghost use Rattle.record_log.specs.Entries.{AreEachTold, AreKept, LeavesEither, entries_text};
 ghost use Rattle.record_log.specs.Entries.{without_notes};
@@ -40,16 +40,16 @@ pub fn add_told<D: Disk>(
 ) -> Result<(), HeadFault>
     // After Ok the contents are those from before and these, whatever a crash leaves.
     ensures added { OnOk result ((cs : List ContentParts)
-        → AreKept D.Disk (disk_of log.old) (end_of log.old) cs
-        → AreKept D.Disk (disk_of log.new) (end_of log.new) (cs ++ without_notes contents.now)) }
+        → AreKept D.Disk (disk_of log.old) (gate_of log.old) cs
+        → AreKept D.Disk (disk_of log.new) (gate_of log.new) (cs ++ without_notes contents.now)) }
     // Whatever is answered, a crash leaves those from before, with these or without.
     ensures crash { (cs : List ContentParts)
-        → AreKept D.Disk (disk_of log.old) (end_of log.old) cs
+        → AreKept D.Disk (disk_of log.old) (gate_of log.old) cs
         → LeavesEither D.Disk (disk_of log.new) cs (cs ++ without_notes contents.now) }
     // A refusal changes nothing, or closes the file.
     ensures refused { OnErr result (IsTrue (is_up D.Disk log.new) → (cs : List ContentParts)
-        → AreKept D.Disk (disk_of log.old) (end_of log.old) cs
-        → AreKept D.Disk (disk_of log.new) (end_of log.new) cs) }
+        → AreKept D.Disk (disk_of log.old) (gate_of log.old) cs
+        → AreKept D.Disk (disk_of log.new) (gate_of log.new) cs) }
     ensures clean { IsTrue (D.Disk.is_clean (disk_of log.new))
         → IsTrue (D.Disk.is_clean (disk_of log.old)) }
 

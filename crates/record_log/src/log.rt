@@ -1,7 +1,7 @@
 //! A file of records to which a running archive adds.
 
 ghost use Rattle.std.specs.Prelude.{◌≡◌, ◌++◌, ◌∷◌, [], IsTrue, List, None, Some};
-ghost use Rattle.head_log.specs.Log.{disk_of, end_of};
+ghost use Rattle.head_log.specs.Log.{disk_of, gate_of};
 ghost use Rattle.operation.specs.Parts.{ContentParts};
 ghost use Rattle.record_log.specs.Entries.{AreKept, without_notes};
 ghost use Rattle.record_log.specs.Log.{KeepsIn, Tells};
@@ -70,7 +70,7 @@ impl<D: Disk + Drop> RecordLog<D> {
     /// A file of records, to which others are added.
     pub fn over(alloc: Global, file: HeadLog<D>) -> RecordLog<D>
         ensures tells { (cs : List ContentParts)
-            → AreKept D.Disk (disk_of file) (end_of file) cs → Tells D.Disk result cs }
+            → AreKept D.Disk (disk_of file) (gate_of file) cs → Tells D.Disk result cs }
         ensures file { result.file ≡ Some file }
     {
         RecordLog {

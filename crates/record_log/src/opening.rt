@@ -1,7 +1,7 @@
 //! What a file of records tells at a start.
 
 ghost use Rattle.std.specs.Prelude.{◌≡◌, ◌≢◌, [], ℕ, IfOk, IsTrue, List, None, Some};
-ghost use Rattle.head_log.specs.Log.{disk_of, end_of};
+ghost use Rattle.head_log.specs.Log.{disk_of, gate_of};
 ghost use Rattle.operation.specs.Parts.{ContentParts};
 ghost use Rattle.record_log.specs.Entries.{AreKept, StandsFor};
 ghost use Rattle.record_log.specs.Log.{IsClean, Tells};
@@ -41,7 +41,7 @@ impl<D: Disk + Drop> Told<D> {
 /// A file of no content, in place of what it has.
 fn emptied<D: Disk + Drop>(alloc: Global, disk: D) -> Result<HeadLog<D>, HeadFault>
     ensures kept { IfOk result (λ file. IsTrue (D.Disk.is_clean (disk_of file))
-        → AreKept D.Disk (disk_of file) (end_of file) []) }
+        → AreKept D.Disk (disk_of file) (gate_of file) []) }
     ensures clean { IfOk result (λ file. IsTrue (D.Disk.is_clean (disk_of file))
         → IsTrue (D.Disk.is_clean disk)) }
 {

@@ -2,13 +2,13 @@
 
 ghost use Rattle.std.specs.Prelude.{◌≡◌, ◌++◌, ◌<◌, ◌≤◌, List, ℕ, false, length, IfErr, IfOk, IsErrOf, IsTrue};
 ghost use Rattle.head_log.specs.Fault.{CountsDisk};
-ghost use Rattle.head_log.specs.Log.{disk_of, end_of, Looks};
+ghost use Rattle.head_log.specs.Log.{disk_of, end_of, gate_of, Looks};
 ghost use Rattle.operation.specs.Parts.{ContentParts};
 ghost use Rattle.record_log.specs.Entries.{AreEachTold, AreTold, HasEntries, WereRead, entries_text};
 ghost use Rattle.record_log.specs.Fault.{IsOfReading};
 
 use crate::entries::first_entry;
-use head_log::{HeadFault, HeadLog};
+use head_log::{Gate, HeadFault, HeadLog};
 use records::RecordedContent;
 use sqlite_disk::Disk;
 use std::alloc::{AllocError, Global};
@@ -51,7 +51,7 @@ pub fn all_told<D: Disk>(
     // Whatever lies in the file, as long as the disk returns what was written.
     ensures told { IfOk result (λ told. IsTrue (D.Disk.is_clean (disk_of log.new))
         → (cs : List ContentParts)
-        → AreTold (D.Disk.seen (disk_of log.old)) (end_of log.old) cs → told.items ≡ cs) }
+        → AreTold (D.Disk.seen (disk_of log.old)) (gate_of log.old) cs → told.items ≡ cs) }
     // One for each entry, whatever these tell: none is passed over.
     ensures all { IfOk result (λ told. IsTrue (D.Disk.is_clean (disk_of log.new))
         → HasEntries (D.Disk.seen (disk_of log.old)) (end_of log.old) (length told.items)) }
@@ -60,7 +60,7 @@ pub fn all_told<D: Disk>(
     // Each fault, only where it is.
     ensures damaged { (n : ℕ) → IsErrOf result (HeadFault.Damaged n)
         → IsTrue (D.Disk.is_clean (disk_of log.new)) → (cs : List ContentParts)
-        → ¬ AreTold (D.Disk.seen (disk_of log.old)) (end_of log.old) cs }
+        → ¬ AreTold (D.Disk.seen (disk_of log.old)) (gate_of log.old) cs }
     ensures place { (n : ℕ) → IsErrOf result (HeadFault.Damaged n) → n < end_of log.old }
     ensures closed { IsErrOf result HeadFault.Closed
         → D.Disk.is_usable (disk_of log.old) ≡ false }
@@ -71,15 +71,15 @@ pub fn all_told<D: Disk>(
     ensures only { IfErr result IsOfReading }
 {
     let mut told = Vec::new(alloc);
-    let mut at = 0;
-    'groups: while at < log.end() {
-        let Some((group, next)) = log.group(at)? else {
+    let mut gate = Gate::first();
+    'groups: while gate.at < log.end() {
+        let Some(found) = log.group(gate)? else {
             return Ok(told);
         };
-        if !take_entries(alloc, &group, &mut told)? {
-            return Err(HeadFault::Damaged(at));
+        if !take_entries(alloc, &found.group, &mut told)? {
+            return Err(HeadFault::Damaged(gate.at));
         }
-        at = next;
+        gate = found.next;
     }
     Ok(told)
 }

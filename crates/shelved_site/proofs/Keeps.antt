@@ -2,7 +2,6 @@
 use Rattle.std.proofs.Common.{◌≡◌, ◌⊎◌, inl, inr, ◌↔◌, ◌+◌, ◌<◌, ◌≤◌, ℕ, List, [], ◌∷◌, ◌++◌, Bool, true, false, cond}
 use Rattle.std.proofs.Common.{nat_eq, Option, Some, None, All, IsTrue, length, map, refl, sym, ◌∙◌, ap, subst, arith}
 use Rattle.std.specs.Cmp.Lexicographic.{pointwise}
-use Rattle.std.proofs.lemmas.List.{append_assoc, append-nil}
 use Rattle.std.proofs.lemmas.List.Elements.{All-nil, All-cons}
 use Rattle.sqlite_disk.specs.Disk.{Holds}
 use Rattle.sqlite_disk.specs.declared.Disk.{Ghosts}
@@ -12,9 +11,10 @@ use Rattle.operation.specs.Spelling.{hash_of, spelling}
 use Rattle.op_log.specs.declared.kept.Kept.{Kept as Told}
 use Rattle.op_log.specs.declared.kept.Kept.TheVariants as told
 use Rattle.op_log.specs.Heads.{Head, body_of, front_of, head_of}
-use Rattle.op_log.specs.Kept.{Has, IsHeld, first_under}
-use Rattle.op_log.specs.Puts.{PutsAll}
-use Rattle.op_log.proofs.Lookups.{still_first, first_behind, own}
+use Rattle.op_log.specs.Kept.{Has, IsHeld, first_under, with_head}
+use Rattle.op_log.specs.Puts.{IsUnread, Puts, PutsAll}
+use Rattle.op_log.proofs.Mending.{keeps_all, keeps_one, not_torn}
+use Rattle.op_log.proofs.Settling.{first_with, same_bytes}
 use Rattle.op_shelf.specs.Keep.{GainsAll, with_one}
 use Rattle.shelved_site.specs.Telling.{kept_of}
 use Rattle.op_log.proofs.Spellings.{both_parts}
@@ -50,44 +50,46 @@ module _ {B : Type 0} (g : Ghosts B) (disk : B) (end : ℕ) where
       let bodies = one_body a b at sizes held (subst (λ (n : ℕ). IsHeld g disk end (b, n)) (sym places) held') in
       sym (both_parts a) ∙ ap (λ (text : List ℕ). text ++ body_of a) fronts ∙ ap (λ (text : List ℕ). front_of b ++ text) bodies ∙ both_parts b
 
-  -- an operation whose digest has no head is not had
-  pub absent : (heads : List Head) (op : Op) → first_under (hash_of op) heads ≡ None → ¬ Have heads op
-  absent heads op none (other, (at, first, held), same) =
+  -- an operation that is not to be read under its digest is not had
+  pub absent : (heads : List Head) (op : Op) → IsTrue (g.is_clean disk) → IsUnread g disk end (hash_of op) (front_of op) heads → ¬ Have heads op
+  absent heads op clean unread (other, (at, first, held), same) =
       let found = ap (λ (d : List ℕ). first_under d heads) (one_digest op other same) ∙ first in
-      let both : None ≡ Some (head_of (other, at)) = sym none ∙ found in
-      absurd cc
+      not_torn g disk end other at (λ some. (held some).0) ((unread (head_of (other, at)) found).1 clean)
 
-  -- what is had behind a new head is that of it, or was had
+  -- what is had once a head is there is that of it, or was had
   behind : (held : Op → Type 0) (heads : List Head) (op other : Op) (at : ℕ) → IsOf held heads → IsHeld g disk end (op, at)
-      → Have (heads ++ head_of (op, at) ∷ []) other → held other ⊎ (spelling other ≡ spelling op)
-  behind held heads op other at is lies (it, (at', first, lies'), same) = by (first_under (hash_of it) heads) refl
+      → Have (with_head heads (head_of (op, at))) other → held other ⊎ (spelling other ≡ spelling op)
+  behind held heads op other at is lies (it, (at', first, lies'), same) =
+      by (pointwise nat_eq (hash_of it) (hash_of op)) (sym (first_with heads (head_of (op, at)) (hash_of it)) ∙ first)
     where
-      found : (h : Head) → first_under (hash_of it) heads ≡ Some h → h ≡ head_of (it, at')
-      found h was =
-          let both : Some h ≡ Some (head_of (it, at')) = sym (still_first heads (head_of (op, at) ∷ []) (hash_of it) h was) ∙ first in
-          cc
+      by : (b : Bool) → cond b (Some (head_of (op, at))) (first_under (hash_of it) heads) ≡ Some (head_of (it, at'))
+          → held other ⊎ (spelling other ≡ spelling op)
+      by true here =
+          let heads_are : head_of (op, at) ≡ head_of (it, at') = cc in
+          inr (same ∙ sym (one_spelling op it at at' heads_are lies lies'))
+      by false there = inl ((is other).1 (it, (at', there, lies'), same))
 
-      last : (b : Bool) → cond b (Some (head_of (op, at))) None ≡ Some (head_of (it, at')) → head_of (op, at) ≡ head_of (it, at')
-      last true is = cc
-      last false is = absurd cc
+  -- an operation whose head is there is had
+  had_now : (heads mid : List Head) (op : Op) (at : ℕ) → mid ≡ with_head heads (head_of (op, at)) → IsHeld g disk end (op, at)
+      → Has g disk end mid op
+  had_now heads mid op at is lies = (
+    at,
+    ap (first_under (hash_of op)) is ∙ first_with heads (head_of (op, at)) (hash_of op)
+        ∙ ap (λ (b : Bool). cond b (Some (head_of (op, at))) (first_under (hash_of op) heads)) (same_bytes (hash_of op) (hash_of op) refl),
+    lies,
+  )
 
-      by : (o : Option Head) → first_under (hash_of it) heads ≡ o → held other ⊎ (spelling other ≡ spelling op)
-      by (Some h) was = inl ((is other).1 (it, (at', was ∙ ap (λ (x : Head). Some x) (found h was), lies'), same))
-      by None was =
-          let here = last (pointwise nat_eq (hash_of it) (hash_of op)) (sym (first_behind heads (head_of (op, at) ∷ []) (hash_of it) was) ∙ first) in
-          inr (same ∙ sym (one_spelling op it at at' here lies lies'))
-
-  -- one head more
-  more_of : (held : Op → Type 0) (heads : List Head) (op : Op) (at : ℕ) → IsOf held heads → first_under (hash_of op) heads ≡ None
-      → IsHeld g disk end (op, at) → IsOf (with_one held op) (heads ++ head_of (op, at) ∷ [])
-  more_of held heads op at is none lies other = (
+  -- one operation more
+  more_of : (held : Op → Type 0) (heads mid : List Head) (op : Op) → IsTrue (g.is_clean disk) → IsOf held heads
+      → Puts g disk end heads op told.New mid → IsOf (with_one held op) mid
+  more_of held heads mid op clean is (unread, (at, mid_is, spelled, lies)) other = (
     elim [
       | inl was ↦
           let it = (is other).0 was in
-          (it.0, (it.1.0, still_first heads (head_of (op, at) ∷ []) (hash_of it.0) (head_of (it.0, it.1.0)) it.1.1, it.1.2), it.2)
-      | inr alike ↦ (op, (at, first_behind heads (head_of (op, at) ∷ []) (hash_of op) none ∙ own (head_of (op, at)), lies), alike)
+          (it.0, keeps_one g disk end it.0 op told.New heads mid clean it.1 (unread, (at, mid_is, spelled, lies)), it.2)
+      | inr alike ↦ (op, had_now heads mid op at mid_is lies, alike)
     ],
-    behind held heads op other at is lies,
+    λ have. behind held heads op other at is lies (subst (λ (hs : List Head). Have hs other) mid_is have),
   )
 
   -- what the puts of a group make of the operations
@@ -99,32 +101,14 @@ module _ {B : Type 0} (g : Ghosts B) (disk : B) (end : ℕ) where
   )
   gains_in held heads new [] (kept ∷ kepts) clean is put = absurd put
   gains_in held heads new (op ∷ ops) [] clean is put = absurd put
-  gains_in held heads new (op ∷ ops) (told.New ∷ kepts) clean is (mid, (none, (at, mid_is, spelled, lies)), rest) = (
-    λ was. absent heads op none ((is op).0 was),
-    gains_in (with_one held op) mid new ops kepts clean
-        (subst (λ (hs : List Head). IsOf (with_one held op) hs) (sym mid_is) (more_of held heads op at is none lies)) rest,
+  gains_in held heads new (op ∷ ops) (told.New ∷ kepts) clean is (mid, (unread, there), rest) = (
+    λ was. absent heads op clean unread ((is op).0 was),
+    gains_in (with_one held op) mid new ops kepts clean (more_of held heads mid op clean is (unread, there)) rest,
   )
   gains_in held heads new (op ∷ ops) (told.Known ∷ kepts) clean is (mid, (there, same), rest) = (
     (is op).1 (op, there clean, refl),
     gains_in held mid new ops kepts clean (subst (λ (hs : List Head). IsOf held hs) (sym same) is) rest,
   )
-
-  -- puts only add heads
-  pub puts_more : (old new : List Head) (ops : List Op) (kepts : List Told) → PutsAll g disk end old ops kepts new
-      → (more : List Head) × (new ≡ old ++ more)
-  puts_more old new [] [] put = ([], put ∙ sym (append-nil old))
-  puts_more old new [] (kept ∷ kepts) put = absurd put
-  puts_more old new (op ∷ ops) [] put = absurd put
-  puts_more old new (op ∷ ops) (told.New ∷ kepts) (mid, (none, (at, mid_is, spelled, lies)), rest) =
-      let (more, is) = puts_more mid new ops kepts rest in
-      (head_of (op, at) ∷ more, is ∙ ap (λ (hs : List Head). hs ++ more) mid_is ∙ append_assoc old (head_of (op, at) ∷ []) more)
-  puts_more old new (op ∷ ops) (told.Known ∷ kepts) (mid, (there, same), rest) =
-      let (more, is) = puts_more mid new ops kepts rest in
-      (more, is ∙ ap (λ (hs : List Head). hs ++ more) same)
-
-  has_still : (heads more new : List Head) (op : Op) → new ≡ heads ++ more → Has g disk end heads op → Has g disk end new op
-  has_still heads more new op is (at, first, lies) =
-      subst (λ (hs : List Head). Has g disk end hs op) (sym is) (at, still_first heads more (hash_of op) (head_of (op, at)) first, lies)
 
   -- and each operation of the group is had
   pub puts_had : (old new : List Head) (ops : List Op) (kepts : List Told) → IsTrue (g.is_clean disk) → PutsAll g disk end old ops kepts new
@@ -132,15 +116,12 @@ module _ {B : Type 0} (g : Ghosts B) (disk : B) (end : ℕ) where
   puts_had old new [] [] clean put = All-nil (Has g disk end new)
   puts_had old new [] (kept ∷ kepts) clean put = absurd put
   puts_had old new (op ∷ ops) [] clean put = absurd put
-  puts_had old new (op ∷ ops) (told.New ∷ kepts) clean (mid, (none, (at, mid_is, spelled, lies)), rest) =
-      let (more, is) = puts_more mid new ops kepts rest in
-      let here : Has g disk end mid op =
-      subst (λ (hs : List Head). Has g disk end hs op) (sym mid_is) (at, first_behind old (head_of (op, at) ∷ []) (hash_of op) none ∙ own (head_of (op, at)), lies) in
-      All-cons (Has g disk end new) op ops (has_still mid more new op is here) (puts_had mid new ops kepts clean rest)
-  puts_had old new (op ∷ ops) (told.Known ∷ kepts) clean (mid, (there, same), rest) =
-      let (more, is) = puts_more mid new ops kepts rest in
-      All-cons (Has g disk end new) op ops (has_still old more new op (is ∙ ap (λ (hs : List Head). hs ++ more) same) (there clean))
+  puts_had old new (op ∷ ops) (told.New ∷ kepts) clean (mid, (unread, (at, mid_is, spelled, lies)), rest) =
+      All-cons (Has g disk end new) op ops (keeps_all g disk end op ops kepts mid new clean (had_now old mid op at mid_is lies) rest)
       (puts_had mid new ops kepts clean rest)
+  puts_had old new (op ∷ ops) (told.Known ∷ kepts) clean (mid, (there, same), rest) =
+      let has = subst (λ (hs : List Head). Has g disk end hs op) (sym same) (there clean) in
+      All-cons (Has g disk end new) op ops (keeps_all g disk end op ops kepts mid new clean has rest) (puts_had mid new ops kepts clean rest)
 
   -- each is told of
   pub same_length : (old new : List Head) (ops : List Op) (kepts : List Told) → PutsAll g disk end old ops kepts new → length kepts ≡ length ops

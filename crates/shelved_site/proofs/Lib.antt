@@ -8,6 +8,7 @@ pub mod Loaded
 pub mod Loads
 pub mod Logs
 pub mod Moves
+pub mod Parted
 pub mod RecordLaws
 pub mod Same
 pub mod Sites

@@ -8,6 +8,8 @@ use Rattle.records.specs.StandIn.{op_in}
 use Rattle.op_shelf.specs.Keep.{AreSame}
 use Rattle.op_shelf.specs.Recording.{KeepsDigest}
 use Rattle.shelved_site.specs.Moving.{AreBrought, AreBroughtInPart, HasSome, IsAmong}
+use Rattle.shelved_site.specs.declared.unreadable.Unreadable.{Unreadable}
+use Rattle.shelved_site.specs.Readable.{Shown}
 use Rattle.shelved_site.specs.Recorded.{AreFoundAs, AreLoaded, HasOperation, IsAmongListed, IsLoaded}
 use Rattle.shelved_site.specs.Sites.{AreRecords}
 use Rattle.shelved_site.proofs.Moves.{IsAlike, joins_some, none_put, put_more}
@@ -15,6 +17,11 @@ use Rattle.shelved_site.proofs.Moves.{IsAlike, joins_some, none_put, put_more}
 -- what one store lists another does
 abbrev pub ListsAll : (List Op → Type 0) → (List Op → Type 0) → Type 0
 ListsAll old new = (ops : List Op) → old ops → new ops
+
+-- what one store shows, whatever is told of the rest, another does
+pub shown_on : (old new : List Unreadable → List Op → Type 0)
+    → ((told : List Unreadable) (ops : List Op) → old told ops → new told ops) → ListsAll (Shown old) (Shown new)
+shown_on old new on ops (told, shown) = (told, on told ops shown)
 
 among_on : (old new : List Op → Type 0) (op : Op) → ListsAll old new → IsAmongListed old op → IsAmongListed new op
 among_on old new op on (ops, listed, among) = (ops, on ops listed, among)
@@ -174,3 +181,30 @@ module _ (lists : List Op → Type 0) where
     loaded = was.loaded;
     joined = joins_some a b c was.ops n alike was.put same;
   }
+
+-- records of what was read are those of what is shown, whatever is told of the rest
+pub shown_records : (reads shows : List Unreadable → List Op → Type 0) (told : List Unreadable) (recorded : List Op)
+    → ((ops : List Op) → reads told ops → shows told ops) → AreRecords (reads told) recorded
+    → AreRecords (shows told) recorded
+shown_records reads shows told recorded on them = record {
+  ops = them.ops;
+  listed = on them.ops them.listed;
+  digests = them.digests;
+  stand = them.stand;
+}
+
+pub any_records : (shows : List Unreadable → List Op → Type 0) (told : List Unreadable) (recorded : List Op)
+    → AreRecords (shows told) recorded → AreRecords (Shown shows) recorded
+any_records shows told recorded them = record {
+  ops = them.ops;
+  listed = (told, them.listed);
+  digests = them.digests;
+  stand = them.stand;
+}
+
+-- what was loaded for all of them is found as these
+pub found_of : (shows : List Unreadable → List Op → Type 0) (told : List Unreadable) (recorded xs : List Op)
+    (them : AreRecords (shows told) recorded) → AreLoaded (Shown shows) recorded xs → AreFoundAs xs them.ops
+unfolding any_records
+found_of shows told recorded xs them loaded =
+    all_found (Shown shows) recorded xs (any_records shows told recorded them) loaded

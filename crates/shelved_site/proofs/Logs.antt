@@ -12,6 +12,7 @@ use Rattle.op_log.specs.Log.{GoesOn, Opened}
 use Rattle.op_log.specs.Puts.{PutsAll}
 use Rattle.op_log.proofs.Keeping.{stands}
 use Rattle.op_log.proofs.Lookups.{still_first}
+use Rattle.op_log.proofs.Mending.{keeps_all}
 use Rattle.op_shelf.specs.Keep.{AreSame, GainsAll}
 use Rattle.shelved_site.specs.Keeping.{Holds, IsUp, Lasts}
 use Rattle.shelved_site.specs.Telling.{kept_of}
@@ -69,7 +70,24 @@ module _ {H B : Type 0} (gh : Ghosts H) (gb : Ghosts B) (old new : Opened H B) (
         heads_are = heads_are;
       }) ops (puts_had gb new.bodies new.bodies_end old.places new.places ops kepts up.bodies put)
 
-  -- what lasted goes on to
+  -- what lasted goes on to, behind a group
+  pub lasts_behind : (ops : List Op) (kepts : List Told) → PutsAll gb new.bodies new.bodies_end old.places ops kepts new.places
+      → ((e : Entry) → IsHeld gb new.bodies new.bodies_end e → IsLasting gb new.bodies new.bodies_end e) → (other : Op) → Lasts gh gb old other
+      → Lasts gh gb new other
+  lasts_behind ops kepts put last other was =
+      let held = held_on gb old.bodies new.bodies old.bodies_end new.bodies_end goes.spared goes.longer (was.op, was.at)
+      (λ some. ((was.lasting some).0.held, (was.lasting some).1)) in
+      let has = keeps_all gb new.bodies new.bodies_end was.op ops kepts old.places new.places up.bodies (was.at, was.first, held) put in
+      record {
+        op = was.op;
+        at = has.0;
+        first = has.1;
+        alike = was.alike;
+        lasting = last (was.op, has.0) has.2;
+        heads_are = heads_are;
+      }
+
+  -- and where heads are left as they were
   pub lasts_on : (more : List Head) → new.places ≡ old.places ++ more → (other : Op) → Lasts gh gb old other → Lasts gh gb new other
   lasts_on more is other was =
       record {

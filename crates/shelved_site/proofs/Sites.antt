@@ -7,9 +7,10 @@ use Rattle.site_hub.specs.Stamps.{next_correction, LAST_COUNTER}
 use Rattle.site_hub.specs.declared.fault.HubFault.{HubFault}
 use Rattle.shelved_site.specs.declared.correcting.Corrected.{Corrected}
 use Rattle.shelved_site.specs.declared.fault.ShelvedFault.{ShelvedFault}
-use Rattle.shelved_site.specs.declared.fault.ShelvedFault.TheVariants.{Shelf, Site, Hub}
+use Rattle.shelved_site.specs.declared.fault.ShelvedFault.TheVariants.{Shelf, Site, Hub, Hidden}
 use Rattle.shelved_site.specs.Corrections.{IsCorrected, IsNext, IsSpent, IsUncorrected, IsUnmade, is_known}
-use Rattle.shelved_site.specs.Sites.{IsSiteOf, IsBeforeHub}
+use Rattle.op_shelf.specs.declared.fault.ShelfFault.{ShelfFault}
+use Rattle.shelved_site.specs.Sites.{IsSiteOf, IsBeforeHub, IsBehindSite, IsOfStore}
 
 -- what was the site of a store is that of one that lists the same
 pub site_since : (old new : List Op → Type 0) (site opening : Map) → ((ops : List Op) → old ops → new ops)
@@ -26,11 +27,27 @@ pub before_hub : (lists : List Op → Type 0) (number : ℕ) (target : Target) (
 before_hub lists number target tag value (Shelf _) before = tt
 before_hub lists number target tag value (Site _) before = tt
 before_hub lists number target tag value (Hub _) before = absurd before
+before_hub lists number target tag value Hidden before = absurd before
 
 pub no_hub : (e : ShelvedFault) (fault : HubFault) → IsBeforeHub e → e ≡ Hub fault → ⊥
 no_hub (Shelf _) fault before is = absurd cc
 no_hub (Site _) fault before is = absurd cc
 no_hub (Hub _) fault before is = before
+no_hub Hidden fault before is = before
+
+-- nor is it a refusal to open one
+pub not_hidden : (e : ShelvedFault) → IsBeforeHub e → ¬ (e ≡ Hidden)
+not_hidden (Shelf _) before is = absurd cc
+not_hidden (Site _) before is = absurd cc
+not_hidden (Hub _) before is = before
+not_hidden Hidden before is = before
+
+-- what is refused behind a site is no fault of its store
+pub behind_site : (refuses : ShelfFault → Type 0) (e : ShelvedFault) → IsBehindSite e → IsOfStore refuses e
+behind_site refuses (Shelf _) behind = absurd behind
+behind_site refuses (Site _) behind = absurd behind
+behind_site refuses (Hub _) behind = tt
+behind_site refuses Hidden behind = tt
 
 -- ---- corrections at the site of a store
 
@@ -53,6 +70,7 @@ module _ (lists : List Op → Type 0) (site : Map) (number : ℕ) (target : Targ
       → IsUncorrected lists number target tag value fault
   unmade_in (Shelf _) it unmade = tt
   unmade_in (Site _) it unmade = tt
+  unmade_in Hidden it unmade = absurd unmade
   unmade_in (Hub fault) it unmade =
       (it.ops, it.listed, ap (λ (m : Map). next_correction number m target tag value) (sym it.took) ∙ unmade)
 

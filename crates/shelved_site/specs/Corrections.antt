@@ -11,7 +11,7 @@ use Rattle.site_hub.specs.Stamps.{next_correction, LAST_COUNTER}
 use Rattle.shelved_site.specs.Sites.{after_recording}
 use Rattle.shelved_site.specs.declared.correcting.Corrected.{Corrected}
 use Rattle.shelved_site.specs.declared.fault.ShelvedFault.{ShelvedFault}
-use Rattle.shelved_site.specs.declared.fault.ShelvedFault.TheVariants.{Shelf, Site, Hub}
+use Rattle.shelved_site.specs.declared.fault.ShelvedFault.TheVariants.{Shelf, Site, Hub, Hidden}
 
 -- whether an operation is a content of a target
 abbrev pub is_of : Target → Op → Bool
@@ -56,9 +56,11 @@ IsUncorrected lists number target tag value (Shelf _) = ⊤
 IsUncorrected lists number target tag value (Site _) = ⊤
 IsUncorrected lists number target tag value (Hub fault) =
     (ops : List Op) × lists ops × (next_correction number (after_recording ops) target tag value ≡ Err fault)
+IsUncorrected lists number target tag value Hidden = ⊥
 
 -- no correction was made at a site: its store refused, or none comes next there, for this reason
 abbrev pub IsUnmade : Map → ℕ → Target → ℕ → List ℕ → ShelvedFault → Type 0
 IsUnmade site number target tag value (Shelf _) = ⊤
 IsUnmade site number target tag value (Site _) = ⊥
 IsUnmade site number target tag value (Hub fault) = next_correction number site target tag value ≡ Err fault
+IsUnmade site number target tag value Hidden = ⊥

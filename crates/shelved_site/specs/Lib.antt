@@ -3,6 +3,7 @@ pub mod Fingerprints
 pub mod Keeping
 pub mod Moving
 pub mod Proved
+pub mod Readable
 pub mod Recorded
 pub mod RecordLaws
 pub mod Refusing

@@ -6,6 +6,7 @@ use Rattle.op_shelf.specs.declared.kept.Kept.{Kept}
 use Rattle.op_shelf.specs.declared.kept.Kept.TheVariants.{New, Known}
 use Rattle.op_shelf.specs.Keep.{AreSame, GainsAll}
 use Rattle.shelved_site.specs.declared.moving.Moved.{Moved}
+use Rattle.shelved_site.specs.declared.unreadable.Unreadable.{Unreadable}
 use Rattle.shelved_site.specs.Recorded.{AreLoaded, IsAmongListed}
 
 -- how many of some puts found an operation that was not there
@@ -30,16 +31,20 @@ pub record JoinsSome (old new : Op → Type 0) (ops : List Op) : Type 0 where
   pub kept : (op : Op) → old op → new op
   pub only : (op : Op) → new op → old op ⊎ IsAmong ops op
 
--- all operations of a list were brought into a store, which has what it had and these, and each of them lasts
-pub record AreMoved (lists : List Op → Type 0) (old new lasts : Op → Type 0) (moved : Moved) : Type 0 where
-  pub ops : List Op
-  pub listed : lists ops
-  pub joined : (op : Op) → new op ↔ (old op ⊎ IsAmong ops op)
-  pub lasting : All lasts ops
-  pub put : ArePut old new ops moved.new
-  pub counted : moved.operations ≡ length ops
+-- All operations that a store shows were brought into another, which has what it had and these, and each of them lasts.
+-- What is left is counted.
+pub record AreMoved (shows : List Unreadable → List Op → Type 0) (old new lasts : Op → Type 0) (moved : Moved) : Type 0
+  where
+    pub told : List Unreadable
+    pub ops : List Op
+    pub shown : shows told ops
+    pub joined : (op : Op) → new op ↔ (old op ⊎ IsAmong ops op)
+    pub lasting : All lasts ops
+    pub put : ArePut old new ops moved.new
+    pub counted : moved.operations ≡ length ops + length told
+    pub left : moved.unread ≡ length told
 
--- A store has what it had. What else it has is one of the operations of a list, or it is as it was.
+-- A store has what it had. What else it has is one of the operations that another shows, or it is as it was.
 abbrev pub HasSome : (List Op → Type 0) → (Op → Type 0) → (Op → Type 0) → Type 0
 HasSome lists old new = AreSame old new ⊎ ((ops : List Op) × lists ops × JoinsSome old new ops)
 

@@ -17,6 +17,7 @@ use Rattle.op_shelf.specs.Entries.{HasBadRow}
 use Rattle.op_shelf.specs.States.{IsNotShown, IsUnready, rows_of}
 use Rattle.op_shelf.specs.Texts.{all_text, kind_text}
 use Rattle.shelved_site.specs.Keeping.{IsUp}
+use Rattle.shelved_site.specs.Stores.{IsSame}
 
 -- a shelf: a row is that of no operation, or its table does not stand alone, or the database refused for this cause
 abbrev pub ShelfRefusesAll : State → State → ShelfFault → Type 0
@@ -40,6 +41,18 @@ LogRefusesAll g old new (Store cause.Damaged) = ⊥
 LogRefusesAll g old new (Store cause.Other) = ⊥
 LogRefusesAll g old new BadRow = (at : ℕ) × HasBadHead (g.seen old.bodies) old.places at
 LogRefusesAll g old new Memory = Unit {0}
+
+-- a log did not show what can be read of it: memory was refused, or the file of data sets was closed, as which it was
+-- the same
+abbrev pub LogIsUnshown : {H B : Type 0} → Ghosts B → Opened H B → ShelfFault → Type 0
+LogIsUnshown {H} {B} g old (Store cause.Closed) =
+    (before : Opened H B) × IsSame g old before × (g.is_usable before.bodies ≡ false)
+LogIsUnshown g old (Store cause.Failed) = ⊥
+LogIsUnshown g old (Store cause.Full) = ⊥
+LogIsUnshown g old (Store cause.Damaged) = ⊥
+LogIsUnshown g old (Store cause.Other) = ⊥
+LogIsUnshown g old BadRow = ⊥
+LogIsUnshown g old Memory = Unit {0}
 
 -- a log that is asked to keep a group: it is closed, or the group is longer than one may be; or one of its disks
 -- refused in this call, or another operation has the digest of one of the group, or memory was refused

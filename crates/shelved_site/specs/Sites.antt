@@ -7,9 +7,9 @@ use Rattle.op_shelf.specs.declared.fault.ShelfFault.{ShelfFault}
 use Rattle.site_state.specs.Site.{Map}
 use Rattle.site_state.specs.Laws.{after_taking}
 use Rattle.shelved_site.specs.declared.fault.ShelvedFault.{ShelvedFault}
-use Rattle.shelved_site.specs.declared.fault.ShelvedFault.TheVariants.{Shelf, Site, Hub}
+use Rattle.shelved_site.specs.declared.fault.ShelvedFault.TheVariants.{Shelf, Site, Hub, Hidden}
 
--- records that stand for all operations of a store, which lists these, and have their digests
+-- records that stand for operations, which a store lists, and have their digests
 pub record AreRecords (lists : List Op → Type 0) (recorded : List Op) : Type 0 where
   pub ops : List Op
   pub listed : lists ops
@@ -20,7 +20,7 @@ pub record AreRecords (lists : List Op → Type 0) (recorded : List Op) : Type 0
 abbrev pub after_recording : List Op → Map
 after_recording ops = after_taking (map op_in ops)
 
--- the site that took what stands for all operations of a store, which lists these
+-- the site that took what stands for operations, which a store lists
 pub record IsSiteOf (lists : List Op → Type 0) (site : Map) : Type 0 where
   pub ops : List Op
   pub listed : lists ops
@@ -31,9 +31,18 @@ abbrev pub IsBeforeHub : ShelvedFault → Type 0
 IsBeforeHub (Shelf _) = ⊤
 IsBeforeHub (Site _) = ⊤
 IsBeforeHub (Hub _) = ⊥
+IsBeforeHub Hidden = ⊥
+
+-- a fault of a hub, or a refusal to open one
+abbrev pub IsBehindSite : ShelvedFault → Type 0
+IsBehindSite (Shelf _) = ⊥
+IsBehindSite (Site _) = ⊥
+IsBehindSite (Hub _) = ⊤
+IsBehindSite Hidden = ⊤
 
 -- a fault of a store only where that refuses so
 abbrev pub IsOfStore : (ShelfFault → Type 0) → ShelvedFault → Type 0
 IsOfStore refuses (Shelf fault) = refuses fault
 IsOfStore refuses (Site _) = ⊤
 IsOfStore refuses (Hub _) = ⊤
+IsOfStore refuses Hidden = ⊤

@@ -11,7 +11,9 @@ use Rattle.op_log.specs.Told.{TellTrue}
 use Rattle.record_log.specs.declared.log.RecordLog.{RecordLog}
 use Rattle.record_log.specs.Entries.{without_notes}
 use Rattle.records.specs.StandIn.{op_in}
+use Rattle.site_state.specs.Laws.{after_taking}
 use Rattle.site_state.specs.Site.{Map}
+use Rattle.shelved_site.specs.declared.unreadable.Unreadable.{Unreadable}
 use Rattle.shelved_site.specs.Sites.{IsSiteOf, after_recording}
 
 -- what a file of records tells of some operations: what stands for each content, but for rejection notes
@@ -62,10 +64,18 @@ AreOthers told (a_correction k ∷ ops) others = AreOthers told ops others
 abbrev pub IsGivenUp : {D : Type 0} → RecordLog D → Type 0
 IsGivenUp records = records.file ≡ None
 
+-- a site took records of what is told, or is read
+pub record IsTakenOf (recorded : List Op → Type 0) (site : Map) : Type 0 where
+  pub records : List Op
+  pub are : recorded records
+  pub took : site ≡ after_taking records
+
 -- it is the site that took what stands for all operations of a store, where what is told of these is true
 abbrev pub IsToldSiteOf : (List Op → Type 0) → List ContentParts → Map → Type 0
 IsToldSiteOf lists told site = (ops : List Op) → lists ops → TellTrue told ops → site ≡ after_recording ops
 
--- It is the site of a store, or it is so where what is told of its operations is true.
-abbrev pub IsOpenedOn : (List Op → Type 0) → List ContentParts → Map → Type 0
-IsOpenedOn lists told site = IsSiteOf lists site ⊎ IsToldSiteOf lists told site
+-- It is the site of what can be read of a store; or, where all can be, it is that of the store if what is told of its
+-- operations is true.
+abbrev pub IsOpenedOn : (List Unreadable → List Op → Type 0) → List Unreadable → List ContentParts → Map → Type 0
+IsOpenedOn shows unreadable told site =
+    IsSiteOf (shows unreadable) site ⊎ (unreadable ≡ [] → IsToldSiteOf (shows []) told site)

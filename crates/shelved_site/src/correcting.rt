@@ -4,12 +4,14 @@ ghost use Rattle.std.specs.Prelude.{◌≡◌, Err, IfOk, IfErr, OnErr, false};
 ghost use Rattle.site_hub.specs.Stamps.{may_be_made, LAST_COUNTER};
 ghost use Rattle.site_state.specs.Site.{ops_of, top_counter_of};
 ghost use Rattle.shelved_site.specs.declared.fault.ShelvedFault.TheVariants.{Hub};
+ghost use Rattle.shelved_site.specs.Readable.{Shown};
 ghost use Rattle.shelved_site.specs.Corrections.{IsCorrected, IsNext, IsSpent, IsUncorrected, IsUnmade};
 
 use crate::Store;
 use crate::fault::ShelvedFault;
 use crate::known::is_known;
-use crate::taking::{Silence, site_on};
+use crate::taking::{Hearing, Sited, site_on};
+use crate::unreadable::Unreadable;
 use octets::Octets;
 use operation::{Op, Stamp, Target};
 use site_hub::{HubFault, next_correction};
@@ -55,29 +57,34 @@ pub fn correct_with<S: Store>(
     Ok(Corrected { stamp, is_known })
 }
 
-/// Corrects an attribute at the site of a number, whose operations stand in a store.
-pub fn correct_on<S: Store>(
+/// Corrects an attribute at the site of a number, whose operations stand in a store, and tells which
+/// of these can't be read: the site is without them.
+pub fn correct_on<S: Store, H: Hearing>(
     alloc: Global,
     store: &mut S,
     number: u16,
     target: Target,
     tag: u32,
     value: Octets,
-) -> Result<Corrected, ShelvedFault>
-    ensures corrected { S.is_clean store.new → IfOk result
-        (IsCorrected (S.lists store.old) (S.is_left store.new) number target tag value) }
+    hearing: &H,
+) -> Result<(Corrected, Vec<Unreadable>), ShelvedFault>
+    ensures corrected { S.is_clean store.new → IfOk result (λ told. IsCorrected
+        (S.shows store.old told.1.items) (S.is_left store.new) number target tag value told.0) }
     ensures refused { S.is_clean store.new → OnErr result (S.spares store.old store.new) }
     ensures clean { S.is_clean store.new → S.is_clean store.old }
 
     // Why none comes next, only where it is so. What may not be made is told so, unless memory
     // or the store is what refuses.
     ensures unmade { S.is_clean store.new → IfErr result
-        (IsUncorrected (S.lists store.old) number target tag value) }
+        (IsUncorrected (Shown (S.shows store.old)) number target tag value) }
     ensures bad_correction { result ≡ Err (Hub HubFault.BadCorrection) →
         may_be_made number target tag value ≡ false }
     ensures stamps_spent { S.is_clean store.new → result ≡ Err (Hub HubFault.StampsSpent)
-        → IsSpent (S.lists store.old) }
+        → IsSpent (Shown (S.shows store.old)) }
 {
-    let site = site_on(alloc, store, &Silence)?;
-    correct_with(store, &site, number, target, tag, value)
+    let Sited { site, unreadable } = site_on(alloc, store, hearing)?;
+    match correct_with(store, &site, number, target, tag, value) {
+        Ok(corrected) => Ok((corrected, unreadable)),
+        Err(fault) => Err(fault),
+    }
 }

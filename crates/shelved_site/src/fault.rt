@@ -20,6 +20,9 @@ pub enum ShelvedFault {
     /// The hub made no correction.
     #[error("the hub refused")]
     Hub(HubFault),
+    /// An operation that can't be read may be a rejection note, and no hub was opened without it.
+    #[error("what can't be read may be a rejection note")]
+    Hidden,
 }
 
 impl From<ShelfFault> for ShelvedFault {

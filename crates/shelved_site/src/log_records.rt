@@ -1,30 +1,29 @@
 //! The records of a log, told or hashed side by side, its site, and the hub that is opened over it.
 
-ghost use Rattle.std.specs.Prelude.{◌≡◌, ◌≤◌, ◌++◌, ◌↔◌, [], List, map, None, false};
+ghost use Rattle.std.specs.Prelude.{◌≡◌, ◌≤◌, ◌++◌, ◌↔◌, [], List, None, false};
 ghost use Rattle.std.specs.Prelude.{IfOk, IfErr, IfSome, IsTrue, OnOk, OnErr};
-ghost use Rattle.operation.specs.declared.op.Op.{Op as Operation};
 ghost use Rattle.operation.specs.Parts.{ContentParts};
-ghost use Rattle.op_log.specs.Told.{TellTrue};
 ghost use Rattle.op_shelf.specs.Keep.{AreSame};
 ghost use Rattle.record_log.specs.Entries.{without_notes};
 ghost use Rattle.record_log.specs.Log.{Tells};
-ghost use Rattle.records.specs.StandIn.{op_in};
 ghost use Rattle.shelved_site.specs.Keeping.{IsUp, Holds, log_of};
-ghost use Rattle.shelved_site.specs.Refusing.{LogRefusesAll};
-ghost use Rattle.shelved_site.specs.Sites.{AreRecords, IsSiteOf, IsOfStore};
-ghost use Rattle.shelved_site.specs.Stores.{IsSame, listed_in};
+ghost use Rattle.shelved_site.specs.Readable.{HidesNothing, recorded_in, shown_in};
+ghost use Rattle.shelved_site.specs.Refusing.{LogIsUnshown};
+ghost use Rattle.shelved_site.specs.Sites.{IsSiteOf, IsOfStore};
+ghost use Rattle.shelved_site.specs.Stores.{IsSame};
 ghost use Rattle.shelved_site.specs.Told.{AreInOrder, AreOthers, IsBehind, IsGivenUp};
-ghost use Rattle.shelved_site.specs.Told.{IsOther, IsToldSiteOf};
+ghost use Rattle.shelved_site.specs.Told.{IsOther, IsToldSiteOf, IsTakenOf};
 
 use crate::fault::ShelvedFault;
 use crate::keeping::KeptLog;
-use crate::taking::{Hearing, site_of};
+use crate::reading::read_log;
+use crate::taking::{Asked, Begun, Hearing, Sited, hub_over, site_of, tell_each};
 use crate::telling::fault;
-use op_shelf::ShelfFault;
+use crate::unreadable::Readable;
+use op_log::LogFault;
+use op_shelf::{ShelfFault, StoreCause};
 use record_log::RecordLog;
 use records::{RecordedContent, RecordedOp};
-use site_hub::{Opened, open};
-use site_state::Site;
 use sqlite_disk::Disk;
 use std::alloc::Global;
 use std::sync::Wait;
@@ -99,34 +98,55 @@ fn add_others<D: Disk + Drop>(
 }
 
 impl<H: Disk, B: Disk> KeptLog<H, B> {
-    /// The records of all operations. Those of contents that are told are taken as they are, and
-    /// the others are hashed in as many threads as there are processors. It is no method of the
-    /// `Store`, since one of a trait can hand nothing to a thread.
-    pub fn records_with<R: Threads + Sync>(
+    /// The records of all operations that can be read, and what is told of the others. Those of
+    /// contents that are told are taken as they are, and the others are hashed in as many threads
+    /// as there are processors; where one can't be read, each is read once more, in this thread. It
+    /// is no method of the `Store`, since one of a trait can hand nothing to a thread.
+    pub fn readable_with<R: Threads + Sync>(
         &mut self,
         rt: &R,
         told: &[RecordedContent],
-    ) -> Result<Vec<RecordedOp>, ShelfFault>
-        // Where nothing is told, they are those of a `Store`.
-        ensures all { IsUp H.Disk B.Disk (log_of self.new) → told.now ≡ []
-            → IfOk result (λ recorded.
-            AreRecords (listed_in B.Disk (log_of self.old)) recorded.items) }
-        // They stand for the operations of the log, where what is told of these does.
-        ensures told { IsUp H.Disk B.Disk (log_of self.new)
-            → IfOk result (λ recorded. (ops : List Operation)
-            → listed_in B.Disk (log_of self.new) ops → TellTrue told.now ops
-            → recorded.items ≡ map op_in ops) }
+    ) -> Result<Readable, ShelfFault>
+        // Each record was told, or stands for an operation of the log.
+        ensures read { IsUp H.Disk B.Disk (log_of self.new) → IfOk result (λ found. recorded_in
+            B.Disk told.now (log_of self.old) found.unreadable.items found.recorded.items) }
         ensures same { IsUp H.Disk B.Disk (log_of self.new)
             → OnOk result (IsSame B.Disk (log_of self.old) (log_of self.new)) }
+        ensures seen { B.Disk.seen (log_of self.new).bodies
+            ≡ B.Disk.seen (log_of self.old).bodies }
         ensures refused { IsUp H.Disk B.Disk (log_of self.new) → OnErr result
             (AreSame (Holds B.Disk (log_of self.old)) (Holds B.Disk (log_of self.new))) }
+        // An operation that can't be read is no fault here.
         ensures why { IsUp H.Disk B.Disk (log_of self.new)
-            → IfErr result (LogRefusesAll B.Disk (log_of self.old) (log_of self.new)) }
+            → IfErr result (LogIsUnshown B.Disk (log_of self.old)) }
         ensures clean { IsUp H.Disk B.Disk (log_of self.new)
             → IsUp H.Disk B.Disk (log_of self.old) }
     {
         match self.log.records_told(rt, self.alloc, told) {
-            Ok(recorded) => Ok(recorded),
+            Ok(recorded) => Ok(Readable::whole(self.alloc, recorded)),
+            Err(LogFault::Closed) => Err(ShelfFault::Store(StoreCause::Closed)),
+            Err(LogFault::Memory) => Err(ShelfFault::Memory),
+            // A data set is none of its operation, or the disk failed to read it.
+            Err(_unread) => self.read_all(told),
+        }
+    }
+
+    /// The same where one can't be read.
+    fn read_all(&mut self, told: &[RecordedContent]) -> Result<Readable, ShelfFault>
+        ensures read { IsUp H.Disk B.Disk (log_of self.new) → IfOk result (λ found. recorded_in
+            B.Disk told.now (log_of self.old) found.unreadable.items found.recorded.items) }
+        ensures same { IsUp H.Disk B.Disk (log_of self.new)
+            → OnOk result (IsSame B.Disk (log_of self.old) (log_of self.new)) }
+        ensures seen { B.Disk.seen (log_of self.new).bodies
+            ≡ B.Disk.seen (log_of self.old).bodies }
+        ensures refused { IsUp H.Disk B.Disk (log_of self.new) → OnErr result
+            (AreSame (Holds B.Disk (log_of self.old)) (Holds B.Disk (log_of self.new))) }
+        ensures why { IfErr result (LogIsUnshown B.Disk (log_of self.old)) }
+        ensures clean { IsUp H.Disk B.Disk (log_of self.new)
+            → IsUp H.Disk B.Disk (log_of self.old) }
+    {
+        match read_log(self.alloc, &mut self.log, told) {
+            Ok(found) => Ok(found),
             Err(refused) => Err(fault(refused)),
         }
     }
@@ -141,30 +161,36 @@ pub fn site_on_log<H: Disk + Drop, B: Disk, T: Threads + Sync, P: Hearing>(
     log: &mut KeptLog<H, B>,
     told: &[RecordedContent],
     hearing: &P,
-) -> Result<Site, ShelvedFault>
+) -> Result<Sited, ShelvedFault>
+    // It took records, each of which was told, or stands for an operation of the log.
+    ensures taken { IsUp H.Disk B.Disk (log_of log.new) → IfOk result (λ sited. IsTakenOf
+        (recorded_in B.Disk told.now (log_of log.old) sited.unreadable.items) sited.site) }
     // Where nothing is told, it is the site of the log, as of a store.
-    ensures site { IsUp H.Disk B.Disk (log_of log.new) → told.now ≡ []
-        → IfOk result (IsSiteOf (listed_in B.Disk (log_of log.new))) }
-    // It has what stands for the operations of the log, where what is told of these does.
-    ensures told { IsUp H.Disk B.Disk (log_of log.new)
-        → IfOk result (IsToldSiteOf (listed_in B.Disk (log_of log.new)) told.now) }
+    ensures site { IsUp H.Disk B.Disk (log_of log.new) → told.now ≡ [] → IfOk result (λ sited.
+        IsSiteOf (shown_in B.Disk (log_of log.new) sited.unreadable.items) sited.site) }
+    // It has what stands for all operations of the log, where what is told of these does.
+    ensures told { IsUp H.Disk B.Disk (log_of log.new) → IfOk result (λ sited.
+        sited.unreadable.items ≡ []
+        → IsToldSiteOf (shown_in B.Disk (log_of log.new) []) told.now sited.site) }
     ensures same { IsUp H.Disk B.Disk (log_of log.new)
         → OnOk result (IsSame B.Disk (log_of log.old) (log_of log.new)) }
     ensures refused { IsUp H.Disk B.Disk (log_of log.new) → OnErr result
         (AreSame (Holds B.Disk (log_of log.old)) (Holds B.Disk (log_of log.new))) }
     // It is refused because of the log only where that had cause not to show its operations.
     ensures why { IsUp H.Disk B.Disk (log_of log.new)
-        → IfErr result
-        (IsOfStore (LogRefusesAll B.Disk (log_of log.old) (log_of log.new))) }
+        → IfErr result (IsOfStore (LogIsUnshown B.Disk (log_of log.old))) }
     ensures clean { IsUp H.Disk B.Disk (log_of log.new) → IsUp H.Disk B.Disk (log_of log.old) }
 {
-    let recorded = log.records_with(threads, told)?;
-    hearing.has_read(recorded.len());
+    let Readable {
+        recorded,
+        unreadable,
+    } = log.readable_with(threads, told)?;
+    tell_each(hearing, recorded.len(), &unreadable);
     if !add_others(alloc, &mut log.records, recorded.as_slice(), told) {
         hearing.has_other_records();
     }
     let site = site_of(alloc, recorded)?;
-    Ok(site)
+    Ok(Sited { site, unreadable })
 }
 
 /// Opens a hub over the site of a log, which has this number, for so many passes, as `hub_on` does
@@ -174,31 +200,34 @@ pub fn hub_on_log<H: Disk + Drop, B: Disk, T: Threads + Sync, R: Wait + Drop, P:
     threads: &T,
     rt: R,
     log: &mut KeptLog<H, B>,
-    number: u16,
-    passes: usize,
     told: &[RecordedContent],
+    asked: Asked,
     hearing: &P,
-) -> Result<Opened<R>, ShelvedFault>
-    requires number { 1 ≤ number }
-    requires passes { (1 ≤ passes) × (passes ≤ 64) }
+) -> Result<Begun<R>, ShelvedFault>
+    requires number { 1 ≤ asked.number }
+    requires passes { (1 ≤ asked.passes) × (asked.passes ≤ 64) }
     // Where nothing is told, the hub opens with the site of the log, as of a store.
-    ensures opening { IsUp H.Disk B.Disk (log_of log.new) → told.now ≡ [] → IfOk result (λ opened.
-        IsSiteOf (listed_in B.Disk (log_of log.new)) opened.opening) }
-    // It opens with what stands for the operations of the log, where what is told of these does.
-    ensures told { IsUp H.Disk B.Disk (log_of log.new) → IfOk result (λ opened.
-        IsToldSiteOf (listed_in B.Disk (log_of log.new)) told.now opened.opening) }
-    ensures size { IfOk result (λ opened. (opened.number ≡ number) × (opened.passes ≡ passes)) }
+    ensures opening { IsUp H.Disk B.Disk (log_of log.new) → told.now ≡ [] → IfOk result (λ begun.
+        IsSiteOf (shown_in B.Disk (log_of log.new) begun.unreadable.items)
+        begun.opened.opening) }
+    // It opens with what stands for all operations of the log, where what is told of these does.
+    ensures told { IsUp H.Disk B.Disk (log_of log.new) → IfOk result (λ begun.
+        begun.unreadable.items ≡ []
+        → IsToldSiteOf (shown_in B.Disk (log_of log.new) []) told.now begun.opened.opening) }
+    // What is hidden stays hidden, unless it is asked for.
+    ensures hidden { IfOk result (λ begun.
+        HidesNothing asked.shows_without begun.unreadable.items) }
+    ensures size { IfOk result (λ begun. (begun.opened.number ≡ asked.number)
+        × (begun.opened.passes ≡ asked.passes)) }
     ensures same { IsUp H.Disk B.Disk (log_of log.new)
         → OnOk result (IsSame B.Disk (log_of log.old) (log_of log.new)) }
     ensures refused { IsUp H.Disk B.Disk (log_of log.new) → OnErr result
         (AreSame (Holds B.Disk (log_of log.old)) (Holds B.Disk (log_of log.new))) }
     // It is refused because of the log only where that had cause not to show its operations.
     ensures why { IsUp H.Disk B.Disk (log_of log.new)
-        → IfErr result
-        (IsOfStore (LogRefusesAll B.Disk (log_of log.old) (log_of log.new))) }
+        → IfErr result (IsOfStore (LogIsUnshown B.Disk (log_of log.old))) }
     ensures clean { IsUp H.Disk B.Disk (log_of log.new) → IsUp H.Disk B.Disk (log_of log.old) }
 {
-    let site = site_on_log(alloc, threads, log, told, hearing)?;
-    let opened = open(alloc, rt, site, number, passes)?;
-    Ok(opened)
+    let sited = site_on_log(alloc, threads, log, told, hearing)?;
+    hub_over(alloc, rt, sited, asked)
 }

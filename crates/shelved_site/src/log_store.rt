@@ -5,8 +5,10 @@ ghost use Rattle.op_shelf.specs.Entries.{kind_in};
 ghost use Rattle.shelved_site.specs.Stores.{count_in};
 
 use crate::keeping::KeptLog;
+use crate::reading::read_log;
 use crate::store::Store;
 use crate::telling::fault;
+use crate::unreadable::Readable;
 use crate::verifying::test_all;
 use op_log::OpLog;
 use op_shelf::{Keep, Kept, ShelfFault, Testing, Verified};
@@ -41,10 +43,11 @@ fn count<H: Disk, B: Disk>(log: &OpLog<H, B>, kind: u8) -> u64
 }
 
 impl<H: Disk + Drop, B: Disk> Store for KeptLog<H, B> {
-    ghost use Rattle.op_log.specs.Loaded.{Lists};
+    ghost use Rattle.sqlite_disk.specs.Disk.{MoreFaults};
     ghost use Rattle.op_shelf.specs.Keep.{AreSame};
     ghost use Rattle.shelved_site.specs.Keeping.{IsUp, Holds, Lasts, log_of};
-    ghost use Rattle.shelved_site.specs.Proved.Logs.{lists_in};
+    ghost use Rattle.shelved_site.specs.Proved.Logs.{any_parts, parts_in};
+    ghost use Rattle.shelved_site.specs.Readable.{read_in, shown_in};
     ghost use Rattle.shelved_site.specs.Refusing.{LogRefusesAll};
     ghost use Rattle.shelved_site.specs.Stores.{IsSame, count_in};
     ghost use Rattle.shelved_site.specs.Verifying.{AreVerified};
@@ -52,12 +55,15 @@ impl<H: Disk + Drop, B: Disk> Store for KeptLog<H, B> {
 
     ghost is_clean = { λ s. IsUp H.Disk B.Disk (log_of s) };
 
-    ghost lists = { λ s ops. Lists (B.Disk.seen (log_of s).bodies) (log_of s).places ops };
+    ghost shows = { λ s told ops. shown_in B.Disk (log_of s) told ops };
+
+    ghost reads = { λ s t told ops. read_in B.Disk (log_of s) (log_of t) told ops };
 
     ghost count = { λ s kind. count_in kind (log_of s).places };
 
-    ghost verifies = { λ s count told.
-        AreVerified (B.Disk.seen (log_of s).bodies) (log_of s).places count told };
+    ghost verifies = { λ s t count told. AreVerified (B.Disk.seen (log_of s).bodies)
+        (MoreFaults (B.Disk.faults (log_of s).bodies) (B.Disk.faults (log_of t).bodies))
+        (log_of s).places count told };
 
     ghost is_same = { λ s t. IsSame B.Disk (log_of s) (log_of t) };
 
@@ -71,8 +77,10 @@ impl<H: Disk + Drop, B: Disk> Store for KeptLog<H, B> {
 
     ghost alike = { λ s a b same held. (held.0, held.1, sym same ∙ held.2) };
 
-    ghost found_lists = { λ s ops others listed found.
-        lists_in _ (log_of s).places ops others listed found };
+    ghost read_shows = { λ s t told ops read. any_parts _ _ (log_of s).places told ops read };
+
+    ghost found_shows = { λ s told ops others shown found.
+        parts_in _ _ (log_of s).places told ops others shown found };
 
     ghost memory_refuses = { λ s t digest. tt };
 
@@ -94,16 +102,16 @@ impl<H: Disk + Drop, B: Disk> Store for KeptLog<H, B> {
         λ held. (two.holds op).0 ((one.holds op).0 held),
         λ held. (one.holds op).1 ((two.holds op).1 held),
       );
-      lists = λ ops listed. two.lists ops (one.lists ops listed);
+      shows = λ told ops shown. two.shows told ops (one.shows told ops shown);
     } };
 
-    ghost same_lists = { λ s t same. same.lists };
+    ghost same_shows = { λ s t same. same.shows };
 
     ghost same_count = { λ s t same kind. ap (count_in kind) same.looks.places };
 
-    fn records(&mut self) -> Result<Vec<RecordedOp>, ShelfFault> {
-        match self.log.records(self.alloc) {
-            Ok(recorded) => Ok(recorded),
+    fn readable(&mut self) -> Result<Readable, ShelfFault> {
+        match read_log(self.alloc, &mut self.log, &[]) {
+            Ok(found) => Ok(found),
             Err(refused) => Err(fault(refused)),
         }
     }

@@ -6,9 +6,11 @@ ghost use Rattle.op_shelf.specs.declared.fault.ShelfFault.{ShelfFault as Fault};
 ghost use Rattle.op_shelf.specs.Keep.{AreSame};
 ghost use Rattle.shelved_site.specs.Moving.{AreBrought, AreBroughtInPart, AreMoved, ArePut, HasSome, RefusesListed};
 ghost use Rattle.shelved_site.specs.Moving.{count_new as count_of_new};
+ghost use Rattle.shelved_site.specs.Readable.{Shown};
 ghost use Rattle.shelved_site.specs.Recorded.{AreLoaded, HasOperation};
 
 use crate::store::Store;
+use crate::unreadable::{Readable, Unreadable};
 use op_shelf::{Keep, Kept, ShelfFault};
 use operation::Digested;
 use records::RecordedOp;
@@ -23,6 +25,9 @@ pub trait Following {
     /// So many operations were read, and are put next.
     fn has_read(&self, operations: usize);
 
+    /// An operation can't be read, and is not moved.
+    fn cannot_read(&self, unreadable: &Unreadable);
+
     /// So many of them were put.
     fn has_put(&self, operations: usize);
 }
@@ -34,6 +39,8 @@ pub struct Moved {
     pub operations: u64,
     /// How many of them were not there before.
     pub new: u64,
+    /// How many of them can't be read, and did not come.
+    pub unread: u64,
 }
 
 /// Which of the two stores refused, and why.
@@ -85,14 +92,14 @@ fn load_group<F: Store>(
     recorded: &[RecordedOp],
 ) -> Result<Vec<Digested>, ShelfFault>
     ensures loaded { F.is_clean from.new → (first : F) → F.is_same first from.old
-        → IfOk result (λ ops. AreLoaded (F.lists first) recorded.now ops.items) }
+        → IfOk result (λ ops. AreLoaded (Shown (F.shows first)) recorded.now ops.items) }
     ensures same { F.is_clean from.new → (first : F) → F.is_same first from.old
         → OnOk result (F.is_same first from.new) }
     ensures refused { F.is_clean from.new → (first : F) → F.is_same first from.old
         → OnErr result (F.spares first from.new) }
     ensures why { F.is_clean from.new → (first : F) → F.is_same first from.old
-        → All (HasOperation (F.lists first)) recorded.now → IfErr result (λ told.
-        RefusesListed (F.is_same first) (F.lists first)
+        → All (HasOperation (Shown (F.shows first))) recorded.now → IfErr result (λ told.
+        RefusesListed (F.is_same first) (Shown (F.shows first))
         (λ before digest. F.refuses_load before from.new digest told)) }
     ensures clean { F.is_clean from.new → F.is_clean from.old }
 {
@@ -113,8 +120,8 @@ fn move_group<F: Store, T: Store>(
     recorded: &[RecordedOp],
 ) -> Result<u64, MoveFault>
     ensures moved { F.is_clean from.new → T.is_up to.new → (first : F) → F.is_same first from.old
-        → IfOk result (AreBrought (F.lists first) (T.holds to.old) (T.holds to.new) (T.lasts to.new)
-        recorded.now) }
+        → IfOk result (AreBrought (Shown (F.shows first)) (T.holds to.old) (T.holds to.new)
+        (T.lasts to.new) recorded.now) }
     ensures refused { T.is_up to.new → OnErr result (AreSame (T.holds to.old) (T.holds to.new)) }
     ensures up { T.is_up to.new → T.is_up to.old }
     ensures kept { T.is_up to.new → (op : Operation) → T.lasts to.old op → T.lasts to.new op }
@@ -125,8 +132,8 @@ fn move_group<F: Store, T: Store>(
     ensures read { F.is_clean from.new → (first : F) → F.is_same first from.old
         → F.spares first from.new }
     ensures unread { F.is_clean from.new → (first : F) → F.is_same first from.old
-        → All (HasOperation (F.lists first)) recorded.now → IfErr result (λ fault. (told : Fault)
-        → fault ≡ MoveFault.From told → RefusesListed (F.is_same first) (F.lists first)
+        → All (HasOperation (Shown (F.shows first))) recorded.now → IfErr result (λ fault.
+        (told : Fault) → fault ≡ MoveFault.From told → RefusesListed (F.is_same first) (Shown (F.shows first))
         (λ before digest. F.refuses_load before from.new digest told)) }
     ensures clean { F.is_clean from.new → F.is_clean from.old }
 {
@@ -149,19 +156,19 @@ fn move_groups<F: Store, T: Store, H: Following>(
     hearing: &H,
 ) -> Result<u64, MoveFault>
     ensures moved { F.is_clean from.new → T.is_up to.new → (first : F) → F.is_same first from.old
-        → IfOk result (AreBrought (F.lists first) (T.holds to.old) (T.holds to.new) (T.lasts to.new)
-        recorded.items) }
+        → IfOk result (AreBrought (Shown (F.shows first)) (T.holds to.old) (T.holds to.new)
+        (T.lasts to.new) recorded.items) }
     ensures part { F.is_clean from.new → T.is_up to.new → (first : F) → F.is_same first from.old
-        → OnErr result (AreBroughtInPart (F.lists first) (T.holds to.old) (T.holds to.new)
-        recorded.items) }
+        → OnErr result (AreBroughtInPart (Shown (F.shows first)) (T.holds to.old)
+        (T.holds to.new) recorded.items) }
     ensures kept { T.is_up to.new → (op : Operation) → T.lasts to.old op → T.lasts to.new op }
 
     // The first is only read.
     ensures read { F.is_clean from.new → (first : F) → F.is_same first from.old
         → F.spares first from.new }
     ensures unread { F.is_clean from.new → (first : F) → F.is_same first from.old
-        → All (HasOperation (F.lists first)) recorded.items → IfErr result (λ fault. (told : Fault)
-        → fault ≡ MoveFault.From told → RefusesListed (F.is_same first) (F.lists first)
+        → All (HasOperation (Shown (F.shows first))) recorded.items → IfErr result (λ fault.
+        (told : Fault) → fault ≡ MoveFault.From told → RefusesListed (F.is_same first) (Shown (F.shows first))
         (λ before digest. F.refuses_load before from.new digest told)) }
     ensures clean { F.is_clean from.new → F.is_clean from.old }
 {
@@ -177,41 +184,54 @@ fn move_groups<F: Store, T: Store, H: Following>(
     Ok(new)
 }
 
-/// Brings all operations of one store into another, group after group, and tells how many there
-/// were and how many of them were new. What is there already is not written again, so that a move
-/// that broke off goes on where it is begun anew. The first is only read, twice: for the records of
-/// all, which are held meanwhile, and then for the operations themselves, of which one group at a
-/// time is in memory.
+/// Tells that so many operations were read, and which can't be.
+fn tell_each<H: Following>(hearing: &H, operations: usize, unreadable: &[Unreadable]) {
+    for one in unreadable {
+        hearing.cannot_read(one);
+    }
+    hearing.has_read(operations);
+}
+
+/// Brings all operations of one store that can be read into another, group after group, and tells
+/// how many there were, how many of them were new and how many can't be read. What is there already
+/// is not written again, so that a move that broke off goes on where it is begun anew. The first is
+/// only read, twice: for the records of all, which are held meanwhile, and then for the operations
+/// themselves, of which one group at a time is in memory. One that could be read first and no more
+/// then ends the move.
 pub fn move_all<F: Store, T: Store, H: Following>(
     from: &mut F,
     to: &mut T,
     hearing: &H,
 ) -> Result<Moved, MoveFault>
-    // The second holds what it held, and all of the first.
+    // The second holds what it held, and all of the first that can be read; the rest is counted.
     ensures moved { F.is_clean from.new → T.is_up to.new → IfOk result
-        (AreMoved (F.lists from.old) (T.holds to.old) (T.holds to.new) (T.lasts to.new)) }
+        (AreMoved (F.shows from.old) (T.holds to.old) (T.holds to.new) (T.lasts to.new)) }
     // A refusal leaves it with what it held, and some of the first, or none.
     ensures part { F.is_clean from.new → T.is_up to.new → OnErr result
-        (HasSome (F.lists from.old) (T.holds to.old) (T.holds to.new)) }
+        (HasSome (Shown (F.shows from.old)) (T.holds to.old) (T.holds to.new)) }
     ensures kept { T.is_up to.new → (op : Operation) → T.lasts to.old op → T.lasts to.new op }
     ensures read { F.is_clean from.new → F.spares from.old from.new }
     // The first is told as refusing only where it had cause to, as its operations were recorded or
     // one of them was loaded.
     ensures unread { F.is_clean from.new → IfErr result (λ fault. (told : Fault)
         → fault ≡ MoveFault.From told → F.refuses_all from.old from.new told
-        ⊎ RefusesListed (F.is_same from.old) (F.lists from.old)
+        ⊎ RefusesListed (F.is_same from.old) (Shown (F.shows from.old))
         (λ before digest. F.refuses_load before from.new digest told)) }
 {
-    let recorded = match from.records() {
-        Ok(recorded) => recorded,
+    let Readable {
+        recorded,
+        unreadable,
+    } = match from.readable() {
+        Ok(found) => found,
         Err(fault) => return Err(MoveFault::From(fault)),
     };
-    let operations = recorded.len();
-    hearing.has_read(operations);
+    let (read, unread) = (recorded.len(), unreadable.len());
+    tell_each(hearing, read, &unreadable);
     match move_groups(from, to, recorded, hearing) {
         Ok(new) => Ok(Moved {
-            operations: operations as u64,
+            operations: read as u64 + unread as u64,
             new,
+            unread: unread as u64,
         }),
         Err(fault) => Err(fault),
     }

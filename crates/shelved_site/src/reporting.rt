@@ -8,7 +8,8 @@ ghost use Rattle.shelved_site.specs.Reports.{reported, IsReport, IsTableOf, SERI
 use crate::Store;
 use crate::fault::ShelvedFault;
 use crate::fingerprinting::fingerprint;
-use crate::taking::{Silence, site_on};
+use crate::taking::{Hearing, Sited, site_on};
+use crate::unreadable::Unreadable;
 use octets::{ListOf, Octets};
 use operation::Digest;
 use site_state::{Counts, Site, SiteFault};
@@ -62,16 +63,22 @@ pub fn report_with<S: Store>(
     Ok(report)
 }
 
-/// The report of the site that a store's operations make. The store stays as it is.
-pub fn report_on<S: Store>(alloc: Global, store: &mut S) -> Result<Report, ShelvedFault>
-    ensures report { S.is_clean store.new → IfOk result
-        (IsReport (S.lists store.old) (S.count store.old SERIES_KIND)) }
+/// The report of the site that those of a store's operations make which can be read, and what is
+/// told of the others. The store stays as it is.
+pub fn report_on<S: Store, H: Hearing>(
+    alloc: Global,
+    store: &mut S,
+    hearing: &H,
+) -> Result<(Report, Vec<Unreadable>), ShelvedFault>
+    ensures report { S.is_clean store.new → IfOk result (λ told. IsReport
+        (S.shows store.old told.1.items) (S.count store.old SERIES_KIND) told.0) }
     ensures same { S.is_clean store.new → OnOk result (S.is_same store.old store.new) }
     ensures refused { S.is_clean store.new → OnErr result (S.spares store.old store.new) }
     ensures clean { S.is_clean store.new → S.is_clean store.old }
 {
-    let site = site_on(alloc, store, &Silence)?;
-    report_with(alloc, store, &site)
+    let Sited { site, unreadable } = site_on(alloc, store, hearing)?;
+    let report = report_with(alloc, store, &site)?;
+    Ok((report, unreadable))
 }
 
 /// The rows of a table over a site.
@@ -82,19 +89,21 @@ fn rows_in(alloc: Global, site: &Site, table: Table) -> Result<Vec<Row>, SiteFau
     Ok(rows)
 }
 
-/// The rows of a table over the site that a store's operations make. The store stays as it is.
-pub fn table_on<S: Store>(
+/// The rows of a table over the site that those of a store's operations make which can be read, and
+/// what is told of the others. The store stays as it is.
+pub fn table_on<S: Store, H: Hearing>(
     alloc: Global,
     store: &mut S,
     table: Table,
-) -> Result<Vec<Row>, ShelvedFault>
-    ensures table { S.is_clean store.new → IfOk result (λ rows.
-        IsTableOf (S.lists store.old) table rows.items) }
+    hearing: &H,
+) -> Result<(Vec<Row>, Vec<Unreadable>), ShelvedFault>
+    ensures table { S.is_clean store.new → IfOk result (λ told. IsTableOf
+        (S.shows store.old told.1.items) table told.0.items) }
     ensures same { S.is_clean store.new → OnOk result (S.is_same store.old store.new) }
     ensures refused { S.is_clean store.new → OnErr result (S.spares store.old store.new) }
     ensures clean { S.is_clean store.new → S.is_clean store.old }
 {
-    let site = site_on(alloc, store, &Silence)?;
+    let Sited { site, unreadable } = site_on(alloc, store, hearing)?;
     let rows = rows_in(alloc, &site, table)?;
-    Ok(rows)
+    Ok((rows, unreadable))
 }

@@ -1,30 +1,55 @@
 //! A shelf as an archive's store.
 
+ghost use Rattle.std.specs.Prelude.{◌≡◌, map, IfOk, IfErr};
+ghost use Rattle.shelved_site.specs.Readable.{unread_in};
+
 use crate::store::Store;
+use crate::unreadable::{Readable, of_rows};
 use op_shelf::{Keep, Kept, Shelf, ShelfFault, Testing, Verified};
 use operation::{Digested, Op};
 use records::RecordedOp;
 use sqlite::Alter;
+
+/// What can be read of a shelf, and what is told of its other rows.
+fn told_of_rows(told: op_shelf::Readable) -> Result<Readable, ShelfFault>
+    ensures told { IfOk result (λ found. (found.recorded.items ≡ told.recorded.items)
+        × (found.unreadable.items ≡ map unread_in told.unreadable.items)) }
+    ensures memory { IfErr result (λ fault. fault ≡ ShelfFault.Memory) }
+{
+    let op_shelf::Readable {
+        recorded,
+        unreadable,
+    } = told;
+    let alloc = *unreadable.allocator();
+    Ok(Readable {
+        recorded,
+        unreadable: of_rows(alloc, unreadable)?,
+    })
+}
 
 impl<S: Alter> Store for Shelf<S> {
     ghost use Rattle.sqlite.specs.Held.{state};
     ghost use Rattle.sqlite.specs.State.{HasCleanDisk, IsUnchanged};
     ghost use Rattle.sqlite.specs.Tree.{Trees};
     ghost use Rattle.op_shelf.specs.Damage.{AreVerified};
-    ghost use Rattle.op_shelf.specs.Entries.{Holds, Lists};
+    ghost use Rattle.op_shelf.specs.Entries.{Holds};
     ghost use Rattle.op_shelf.specs.States.{KeepsAll, count_of, rows_left, rows_of, tree_in};
     ghost use Rattle.std.proofs.Common.{ap, subst, sym, ◌∙◌};
     ghost use Rattle.sqlite.specs.Effect.{Database};
-    ghost use Rattle.shelved_site.specs.Proved.Shelves.{alike_in, lists_in};
+    ghost use Rattle.shelved_site.specs.declared.unreadable.Unreadable.{Unreadable as Unread};
+    ghost use Rattle.shelved_site.specs.Proved.Shelves.{alike_in, shows_in};
+    ghost use Rattle.shelved_site.specs.Readable.{ShowsRows};
     ghost use Rattle.shelved_site.specs.Refusing.{ShelfRefusesAll, ShelfRefusesCount};
 
     ghost is_clean = { λ s. HasCleanDisk (state S.Store s) };
 
-    ghost lists = { λ s ops. Lists (rows_of (state S.Store s)) ops };
+    ghost shows = { λ s told ops. ShowsRows (rows_of (state S.Store s)) told ops };
+
+    ghost reads = { λ s t told ops. ShowsRows (rows_of (state S.Store s)) told ops };
 
     ghost count = { λ s kind. count_of kind (rows_of (state S.Store s)) };
 
-    ghost verifies = { λ s count told. AreVerified (rows_of (state S.Store s)) count told };
+    ghost verifies = { λ s t count told. AreVerified (rows_of (state S.Store s)) count told };
 
     ghost is_same = { λ s t. IsUnchanged (state S.Store s) (state S.Store t) };
 
@@ -41,7 +66,10 @@ impl<S: Alter> Store for Shelf<S> {
 
     ghost alike = { λ s a b same held. alike_in _ a b same held };
 
-    ghost found_lists = { λ s ops others listed found. lists_in _ ops others listed found };
+    ghost read_shows = { λ s t told ops read. read };
+
+    ghost found_shows = { λ s told ops others shown found.
+        shows_in _ told ops others shown found };
 
     ghost memory_refuses = { λ s t digest. tt };
 
@@ -65,14 +93,18 @@ impl<S: Alter> Store for Shelf<S> {
       two.2 ∙ one.2,
     ) };
 
-    ghost same_lists = { λ s t same ops listed.
-        subst (λ (d : Database). Lists (d.trees (tree_in d.schema)) ops) (sym same.0.now_is) listed };
+    ghost same_shows = { λ s t same told ops shown. subst
+        (λ (d : Database). ShowsRows (d.trees (tree_in d.schema)) told ops)
+        (sym same.0.now_is) shown };
 
     ghost same_count = { λ s t same kind.
         ap (λ (d : Database). count_of kind (d.trees (tree_in d.schema))) same.0.now_is };
 
-    fn records(&mut self) -> Result<Vec<RecordedOp>, ShelfFault> {
-        Shelf::records(self)
+    fn readable(&mut self) -> Result<Readable, ShelfFault> {
+        match Shelf::readable(self) {
+            Ok(told) => told_of_rows(told),
+            Err(fault) => Err(fault),
+        }
     }
 
     fn load_recorded(&mut self, recorded: &RecordedOp) -> Result<Digested, ShelfFault> {

@@ -1,11 +1,14 @@
 //! The site of a store, and the hub that is opened over it.
 
-ghost use Rattle.std.specs.Prelude.{◌≡◌, ◌≤◌, IfOk, IfErr, IsErrOf, OnOk, OnErr};
+ghost use Rattle.std.specs.Prelude.{◌≡◌, ◌≤◌, All, Err, false, IfOk, IfErr, IsErrOf, OnOk, OnErr};
 ghost use Rattle.site_state.specs.Laws.{Apart, after_taking};
-ghost use Rattle.shelved_site.specs.Sites.{IsSiteOf, IsBeforeHub, IsOfStore};
+ghost use Rattle.shelved_site.specs.declared.fault.ShelvedFault.TheVariants.{Hidden};
+ghost use Rattle.shelved_site.specs.Readable.{HidesNothing, IsNoNote};
+ghost use Rattle.shelved_site.specs.Sites.{IsSiteOf, IsBehindSite, IsBeforeHub, IsOfStore};
 
 use crate::Store;
 use crate::fault::ShelvedFault;
+use crate::unreadable::{Readable, Unreadable, hide_nothing};
 use records::RecordedOp;
 use site_hub::{Opened, open};
 use site_state::{Site, SiteFault};
@@ -17,17 +20,46 @@ pub trait Hearing {
     /// So many operations were read, and are taken next.
     fn has_read(&self, operations: usize);
 
+    /// An operation can't be read, and the others go on without it.
+    fn cannot_read(&self, unreadable: &Unreadable);
+
     /// The records beside a log do not follow its operations: none is added.
     fn has_other_records(&self);
 }
 
-/// Nobody.
-pub struct Silence;
+/// A site, and what is told of those operations of its store that can't be read, which it is
+/// without.
+#[derive(Drop)]
+pub struct Sited {
+    pub site: Site,
+    pub unreadable: Vec<Unreadable>,
+}
 
-impl Hearing for Silence {
-    fn has_read(&self, _operations: usize) {}
+/// A hub over a site, and what is told of those operations of its store that can't be read.
+#[derive(Drop)]
+pub struct Begun<R: Wait + Drop> {
+    pub opened: Opened<R>,
+    pub unreadable: Vec<Unreadable>,
+}
 
-    fn has_other_records(&self) {}
+/// What is asked of a hub.
+#[derive(Clone, Copy, Debug)]
+pub struct Asked {
+    /// The number of its site, from 1 on.
+    pub number: u16,
+    /// For how many passes it is, 1 to 64.
+    pub passes: usize,
+    /// Whether it opens where an operation that can't be read may be a rejection note: then images
+    /// may be shown that a note hides.
+    pub shows_without: bool,
+}
+
+/// Tells that so many operations were read, and which can't be.
+pub(crate) fn tell_each<H: Hearing>(hearing: &H, operations: usize, unreadable: &[Unreadable]) {
+    for one in unreadable {
+        hearing.cannot_read(one);
+    }
+    hearing.has_read(operations);
 }
 
 /// The site that took some records, one after another.
@@ -57,14 +89,15 @@ pub fn site_of(alloc: Global, recorded: Vec<RecordedOp>) -> Result<Site, SiteFau
     Ok(site)
 }
 
-/// The site of a store, which took the records of all its operations: one data set at a time is in
-/// memory. The store stays as it is.
+/// The site of a store, which took the records of all its operations that can be read: one data set
+/// at a time is in memory. The store stays as it is.
 pub fn site_on<S: Store, H: Hearing>(
     alloc: Global,
     store: &mut S,
     hearing: &H,
-) -> Result<Site, ShelvedFault>
-    ensures site { S.is_clean store.new → IfOk result (IsSiteOf (S.lists store.old)) }
+) -> Result<Sited, ShelvedFault>
+    ensures site { S.is_clean store.new → IfOk result (λ sited. IsSiteOf
+        (S.reads store.old store.new sited.unreadable.items) sited.site) }
     ensures same { S.is_clean store.new → OnOk result (S.is_same store.old store.new) }
     ensures refused { S.is_clean store.new → OnErr result (S.spares store.old store.new) }
     // It is refused because of the store only where that had cause not to show its operations.
@@ -73,27 +106,62 @@ pub fn site_on<S: Store, H: Hearing>(
     ensures clean { S.is_clean store.new → S.is_clean store.old }
     ensures fault { IfErr result IsBeforeHub }
 {
-    let recorded = store.records()?;
-    hearing.has_read(recorded.len());
+    let Readable {
+        recorded,
+        unreadable,
+    } = store.readable()?;
+    tell_each(hearing, recorded.len(), &unreadable);
     let site = site_of(alloc, recorded)?;
-    Ok(site)
+    Ok(Sited { site, unreadable })
 }
 
-/// Opens a hub over the site of a store, which has this number, for so many passes. The store stays
-/// as it is.
+/// Opens a hub over a site. It is refused where an operation that can't be read may be a rejection
+/// note, unless it is asked for without.
+pub(crate) fn hub_over<R: Wait + Drop>(
+    alloc: Global,
+    rt: R,
+    sited: Sited,
+    asked: Asked,
+) -> Result<Begun<R>, ShelvedFault>
+    requires number { 1 ≤ asked.number }
+    requires passes { (1 ≤ asked.passes) × (asked.passes ≤ 64) }
+    ensures opening { IfOk result (λ begun. (begun.opened.opening ≡ sited.site)
+        × (begun.unreadable.items ≡ sited.unreadable.items)) }
+    ensures hidden { IfOk result (λ begun.
+        HidesNothing asked.shows_without begun.unreadable.items) }
+    ensures asked { result ≡ Err Hidden → (asked.shows_without ≡ false)
+        × ¬ (All IsNoNote sited.unreadable.items) }
+    ensures size { IfOk result (λ begun. (begun.opened.number ≡ asked.number)
+        × (begun.opened.passes ≡ asked.passes)) }
+    ensures fault { IfErr result IsBehindSite }
+{
+    let Sited { site, unreadable } = sited;
+    if !asked.shows_without && !hide_nothing(&unreadable) {
+        return Err(ShelvedFault::Hidden);
+    }
+    let opened = open(alloc, rt, site, asked.number, asked.passes)?;
+    Ok(Begun { opened, unreadable })
+}
+
+/// Opens a hub over the site of a store. Where an operation that can't be read may be a rejection
+/// note it is refused, unless it is asked for without. The store stays as it is.
 pub fn hub_on<S: Store, R: Wait + Drop, H: Hearing>(
     alloc: Global,
     rt: R,
     store: &mut S,
-    number: u16,
-    passes: usize,
+    asked: Asked,
     hearing: &H,
-) -> Result<Opened<R>, ShelvedFault>
-    requires number { 1 ≤ number }
-    requires passes { (1 ≤ passes) × (passes ≤ 64) }
-    ensures opening { S.is_clean store.new → IfOk result (λ opened.
-        IsSiteOf (S.lists store.new) opened.opening) }
-    ensures size { IfOk result (λ opened. (opened.number ≡ number) × (opened.passes ≡ passes)) }
+) -> Result<Begun<R>, ShelvedFault>
+    requires number { 1 ≤ asked.number }
+    requires passes { (1 ≤ asked.passes) × (asked.passes ≤ 64) }
+    ensures opening { S.is_clean store.new → IfOk result (λ begun. IsSiteOf
+        (S.shows store.new begun.unreadable.items) begun.opened.opening) }
+    // What is hidden stays hidden, unless it is asked for.
+    ensures hidden { IfOk result (λ begun.
+        HidesNothing asked.shows_without begun.unreadable.items) }
+    ensures asked { result ≡ Err Hidden → asked.shows_without ≡ false }
+    ensures size { IfOk result (λ begun. (begun.opened.number ≡ asked.number)
+        × (begun.opened.passes ≡ asked.passes)) }
     ensures same { S.is_clean store.new → OnOk result (S.is_same store.old store.new) }
     ensures refused { S.is_clean store.new → OnErr result (S.spares store.old store.new) }
     // It is refused because of the store only where that had cause not to show its operations.
@@ -101,7 +169,6 @@ pub fn hub_on<S: Store, R: Wait + Drop, H: Hearing>(
         → IfErr result (IsOfStore (S.refuses_all store.old store.new)) }
     ensures clean { S.is_clean store.new → S.is_clean store.old }
 {
-    let site = site_on(alloc, store, hearing)?;
-    let opened = open(alloc, rt, site, number, passes)?;
-    Ok(opened)
+    let sited = site_on(alloc, store, hearing)?;
+    hub_over(alloc, rt, sited, asked)
 }

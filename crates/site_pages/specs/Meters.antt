@@ -19,6 +19,7 @@ no_meters = record {
   served = no_exchanges;
   called = no_exchanges;
   given = 0;
+  unread = 0;
   taken = 0;
   busy = 0;
   agreed = None;
@@ -49,10 +50,11 @@ abbrev pub with_way : Meters → Way → ExchangeEnd → Meters
 with_way meters Served end = record meters { served = with_exchange_end meters.served end }
 with_way meters Called end = record meters { called = with_exchange_end meters.called end }
 
--- the same, with what was given and taken
+-- the same, with what was given, what could not be read, and what was taken
 abbrev pub with_exchange : Meters → Way → Met → Meters
 with_exchange meters way met = record (with_way meters way met.end) {
   given = more meters.given met.given;
+  unread = more meters.unread met.unread;
   taken = more meters.taken met.taken;
   agreed = last_agreed meters.agreed met.end met.at;
 }

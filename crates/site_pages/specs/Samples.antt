@@ -81,10 +81,11 @@ called_samples ends =
     ∷ exchanged family.ExchangesCalled (codes "fault") ends.faults
     ∷ exchanged family.ExchangesCalled (codes "not_reached") ends.not_reached ∷ []
 
--- what exchanges gave and took
+-- what exchanges gave and took, and what could not be read for them
 unfoldable pub operation_samples : Meters → List Sample
 operation_samples meters =
-    sample_in family.OperationsGiven meters.given ∷ sample_in family.OperationsTaken meters.taken ∷ []
+    sample_in family.OperationsGiven meters.given ∷ sample_in family.OperationsTaken meters.taken
+    ∷ sample_in family.ExchangeUnread meters.unread ∷ []
 
 -- how many threads serve now, and since when the server runs
 unfoldable pub moment_samples : Reading → List Sample

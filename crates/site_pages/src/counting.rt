@@ -2,6 +2,7 @@
 
 ghost use Rattle.std.specs.Prelude.{◌≡◌, Ok, false};
 ghost use Rattle.site_pages.specs.Counting.{association_end, exchange_end, met_in, unreached_in};
+ghost use Rattle.site_pages.specs.Counting.{has_agreed as has_agreed_in};
 
 use crate::ends::{AssociationEnd, ExchangeEnd};
 use crate::meters::Met;
@@ -31,6 +32,13 @@ pub fn association_end_of(ended: Result<End, RunFault>, is_rejected: bool) -> As
     }
 }
 
+/// Whether both sides agreed, and all that was to be given could be read.
+fn has_agreed(ended: Ended) -> bool
+    ensures { result ≡ has_agreed_in ended }
+{
+    ended.agreed && ended.unread == 0
+}
+
 /// How an exchange is counted that was not broken off.
 fn exchange_end_of(ended: Ended) -> ExchangeEnd
     ensures { result ≡ exchange_end ended }
@@ -38,7 +46,7 @@ fn exchange_end_of(ended: Ended) -> ExchangeEnd
     if !ended.finished {
         return ExchangeEnd::Unfinished;
     }
-    if ended.agreed {
+    if has_agreed(ended) {
         ExchangeEnd::Agreed
     } else {
         ExchangeEnd::NotAgreed
@@ -54,12 +62,14 @@ pub fn met_of(ended: Result<Ended, ExchangeFault>, at: u64) -> Met
         Err(_fault) => Met {
             end: ExchangeEnd::Fault,
             given: 0,
+            unread: 0,
             taken: 0,
             at,
         },
         Ok(ended) => Met {
             end: exchange_end_of(ended),
             given: ended.given,
+            unread: ended.unread,
             taken: ended.taken,
             at,
         },
@@ -73,6 +83,7 @@ pub fn not_reached(at: u64) -> Met
     Met {
         end: ExchangeEnd::NotReached,
         given: 0,
+        unread: 0,
         taken: 0,
         at,
     }

@@ -20,6 +20,7 @@ pub(crate) enum Family {
     ExchangesCalled,
     OperationsGiven,
     OperationsTaken,
+    ExchangeUnread,
     WorkersBusy,
     Uptime,
     ResidentMemory,
@@ -40,6 +41,7 @@ impl Family {
             Family::Gets | Family::GetImages => SampleKind::Counter,
             Family::ExchangesServed | Family::ExchangesCalled => SampleKind::Counter,
             Family::OperationsGiven | Family::OperationsTaken => SampleKind::Counter,
+            Family::ExchangeUnread => SampleKind::Counter,
             Family::WorkersBusy | Family::Uptime | Family::SinceAgreed => SampleKind::Gauge,
             Family::ResidentMemory | Family::StoreBytes => SampleKind::Gauge,
         }
@@ -62,6 +64,7 @@ impl Family {
             Family::ExchangesCalled => b"wiersomp_exchanges_called_total",
             Family::OperationsGiven => b"wiersomp_operations_given_total",
             Family::OperationsTaken => b"wiersomp_operations_taken_total",
+            Family::ExchangeUnread => b"wiersomp_exchange_unread_total",
             Family::WorkersBusy => b"wiersomp_workers_busy",
             Family::Uptime => b"wiersomp_uptime_seconds",
             Family::ResidentMemory => b"process_resident_memory_bytes",
@@ -90,6 +93,8 @@ impl Family {
             Family::OperationsGiven => b"Operations that exchanges gave which were not broken off.",
             Family::OperationsTaken =>
                 b"New operations that exchanges took which were not broken off.",
+            Family::ExchangeUnread =>
+                b"Held operations that a peer asked for and that could not be read.",
             Family::WorkersBusy => b"Threads that serve an association or an exchange now.",
             Family::Uptime => b"Seconds since the server began.",
             Family::ResidentMemory => b"Bytes of memory that the process has resident.",

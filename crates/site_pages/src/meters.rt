@@ -22,6 +22,8 @@ pub struct Met {
     pub end: ExchangeEnd,
     /// How many operations were given.
     pub given: u64,
+    /// How many operations that the peer asked for could not be read.
+    pub unread: u64,
     /// How many operations were taken that were new.
     pub taken: u64,
     /// The second in which it ended.
@@ -38,6 +40,8 @@ pub struct Meters {
     /// Exchanges with peers that the server called.
     pub called: ExchangeEnds,
     pub given: u64,
+    /// Operations that peers asked for and that could not be read.
+    pub unread: u64,
     pub taken: u64,
     /// How many threads serve an association or an exchange now.
     pub busy: u64,
@@ -67,6 +71,7 @@ impl Meters {
             served: ExchangeEnds::new(),
             called: ExchangeEnds::new(),
             given: 0,
+            unread: 0,
             taken: 0,
             busy: 0,
             agreed: None,
@@ -111,6 +116,7 @@ impl Meters {
     {
         self.count(way, met.end);
         self.given = self.given.saturating_add(met.given);
+        self.unread = self.unread.saturating_add(met.unread);
         self.taken = self.taken.saturating_add(met.taken);
         self.agreed = agreed_after(self.agreed, met);
     }

@@ -157,7 +157,7 @@ fn of_called(alloc: Global, ends: ExchangeEnds) -> Result<Vec<Sample>, AllocErro
     Ok(samples)
 }
 
-/// What exchanges gave and took.
+/// What exchanges gave and took, and what could not be read for them.
 #[tactic(auto, unfolding(crate::specs::Samples::operation_samples))]
 fn of_operations(alloc: Global, meters: Meters) -> Result<Vec<Sample>, AllocError>
     ensures { IfOk result (λ samples. samples.items ≡ operation_samples meters) }
@@ -165,6 +165,7 @@ fn of_operations(alloc: Global, meters: Meters) -> Result<Vec<Sample>, AllocErro
     let mut samples = Vec::new(alloc);
     samples.push(sample(alloc, Family::OperationsGiven, meters.given)?)?;
     samples.push(sample(alloc, Family::OperationsTaken, meters.taken)?)?;
+    samples.push(sample(alloc, Family::ExchangeUnread, meters.unread)?)?;
     Ok(samples)
 }
 

@@ -1,6 +1,7 @@
 //! Why a command is refused, in words: the second line on standard error.
 
 ghost use Rattle.std.specs.Prelude.{◌≡◌};
+ghost use Rattle.archive_app.specs.Causes.{place_in};
 ghost use Rattle.archive_app.specs.Causes.{SaysFullOfAFullDisk, words_of_file, words_of_net, words_of_part};
 ghost use Rattle.archive_app.specs.Causes.{words_of_fault, words_of as words_in, file_cause_of as file_cause_in};
 ghost use Rattle.archive_app.specs.Causes.{file_cause_in_error, listen_cause_of as listen_cause_in};
@@ -36,12 +37,21 @@ pub enum FileCause {
     OtherKind,
     OtherDatabase,
     Damaged,
+    /// At this byte of its heads they are none that are written, or lead to where `bodies` has no
+    /// byte.
+    Heads(usize),
     Journal,
     Full,
     /// The disk failed, for another cause than want of room.
     Failed,
     /// It was not opened, and no more is known.
     Unopened,
+    /// Some of its operations can't be read.
+    Unreadable,
+    /// One of them may be a rejection note.
+    Hidden,
+    /// Its log has frames behind a bad one, which an open would cut off.
+    LostFrames,
 }
 
 /// Why an address is refused.
@@ -144,10 +154,18 @@ fn words_of_file(cause: FileCause) -> &'static str
         FileCause::OtherKind => "it is no archive's file",
         FileCause::OtherDatabase => "it is another program's database",
         FileCause::Damaged => "it is damaged, or no archive's file",
+        FileCause::Heads(_) =>
+            "its file heads is damaged, or leads behind the end of bodies, at byte",
         FileCause::Journal => "a rollback journal is beside it: open it with sqlite3 first",
         FileCause::Full => "the disk is full",
         FileCause::Failed => "the disk failed",
         FileCause::Unopened => "it could not be opened",
+        FileCause::Unreadable => "some of its operations can't be read",
+        FileCause::Hidden =>
+            "a rejection note may be among what can't be read: archive exchange with another \
+            site, or a restore, mends it; --show-without serves without it",
+        FileCause::LostFrames =>
+            "its -wal is damaged, and an open would lose frames: archive move brings out the rest",
     }
 }
 
@@ -283,6 +301,16 @@ fn words_of_fault(fault: CommandFault) -> &'static str
 pub fn a_full_disk_is_told_as_one()
     ensures { SaysFullOfAFullDisk }
 {}
+
+/// The byte of a file at which a cause is, where that is known: its words are before it.
+pub fn place_of(cause: Cause) -> Option<usize>
+    ensures { result ≡ place_in cause }
+{
+    match cause {
+        Cause::File(FileCause::Heads(at)) => Some(at),
+        _ => None,
+    }
+}
 
 /// A cause in words. It takes no memory.
 pub fn words_of(cause: Cause) -> &'static str

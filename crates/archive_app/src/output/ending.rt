@@ -100,6 +100,7 @@ impl From<ShelvedFault> for CommandFault {
             ShelvedFault::Shelf(fault) => CommandFault::Shelf(fault),
             ShelvedFault::Site(fault) => CommandFault::Site(fault),
             ShelvedFault::Hub(fault) => CommandFault::Hub(fault),
+            ShelvedFault::Hidden => CommandFault::Shelf(ShelfFault::BadRow),
         }
     }
 }

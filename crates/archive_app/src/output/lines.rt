@@ -6,7 +6,7 @@ ghost use Rattle.hex.specs.Hex.{encode_lower};
 ghost use Rattle.site_simulation.specs.Texts.{line, end_line, message_line, stamp_line};
 ghost use Rattle.archive_app.specs.Lines.{count_lines, exchange_lines, finished_line, flagged_line, move_lines};
 ghost use Rattle.archive_app.specs.Lines.{report_lines};
-ghost use Rattle.archive_app.specs.Lines.{fingerprint_line, fingerprint_lines, store_lines};
+ghost use Rattle.archive_app.specs.Lines.{fingerprint_line, fingerprint_lines, store_lines, unread_lines};
 
 use exchange::Ended;
 use octets::{Octets, put_digits};
@@ -149,14 +149,25 @@ fn put_finished(out: &mut Vec<u8>, finished: bool) -> Result<(), AllocError>
     out.extend_from_slice(b"finished no\n")
 }
 
-/// The lines of an exchange: how many operations were given, how many taken that were new, and
-/// whether all were given that were asked for.
+/// How many operations could not be read, where there are some.
+fn put_unread(alloc: Global, out: &mut Vec<u8>, unread: u64) -> Result<(), AllocError>
+    ensures { OnOk result (out.new.items ≡ out.old.items ++ unread_lines unread) }
+{
+    if unread == 0 {
+        return Ok(());
+    }
+    put_count(alloc, out, b"unread", unread)
+}
+
+/// The lines of an exchange: how many operations were given, how many taken that were new, how many
+/// that the peer asked for could not be read, and whether all were given that were asked for.
 pub fn lines_of_exchange(alloc: Global, ended: Ended) -> Result<Vec<u8>, AllocError>
     ensures { IfOk result (λ text. text.items ≡ exchange_lines ended) }
 {
     let mut out = Vec::new(alloc);
     put_count(alloc, &mut out, b"given", ended.given)?;
     put_count(alloc, &mut out, b"taken", ended.taken)?;
+    put_unread(alloc, &mut out, ended.unread)?;
     put_finished(&mut out, ended.finished)?;
     Ok(out)
 }

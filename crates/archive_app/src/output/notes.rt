@@ -18,8 +18,18 @@ pub enum Note {
     NoRecords,
     /// What leads to the data sets in a folder is empty, and these are there.
     NoHeads,
+    /// What leads to the data sets in a folder was in the older form.
+    RenewedHeads,
+    /// A whole group stood there behind the gate at which the others end.
+    HiddenGroup,
     /// They do not follow the log.
     OtherRecords,
+    /// It is served although a rejection note may be among what can't be read.
+    ShownWithout,
+    /// The log beside a file is damaged, and what stands behind the damage is not read.
+    LostFrames,
+    /// Frames stand behind the end of the log, as a crash leaves them.
+    RestOfLog,
     /// A correction's value is no date or no time that a query matches.
     NoDate,
     NoTime,
@@ -42,8 +52,16 @@ pub fn words_of_note(note: Note) -> &'static str
             "its file records is damaged, and begun anew: this start reads each image",
         Note::NoRecords => "its file records is not used: this start reads each image",
         Note::NoHeads => "its file heads is empty, and bodies is not: what was there is not read",
+        Note::RenewedHeads => "its file heads was of an older form, and is renewed",
+        Note::HiddenGroup =>
+            "its older heads have a group behind their end, which does not count: see heads.older",
         Note::OtherRecords =>
             "its file records does not follow its log: remove it, and the next start makes it anew",
+        Note::ShownWithout =>
+            "warning: it is served without what can't be read: what a note hides may be shown",
+        Note::LostFrames => "its -wal is damaged: what stands behind the damage is not read",
+        Note::RestOfLog =>
+            "frames stand behind the end of its -wal: a crash left them, or a disk that changed",
         Note::NoDate => "warning: VALUE is no date that a query matches, such as 20240229",
         Note::NoTime => "warning: VALUE is no time that a query matches, such as 101530",
         Note::UnknownStudy => "warning: it has nothing of this study, or not yet",

@@ -12,7 +12,7 @@ use op_shelf::{Damaged, ShelfFault, Verified};
 use std::alloc::{AllocError, Global};
 
 /// A text, and a hyphen where there is none.
-fn or_hyphen(text: &[u8]) -> &[u8]
+pub(crate) fn or_hyphen(text: &[u8]) -> &[u8]
     ensures { result.now ≡ or_hyphen text.now }
 {
     if text.is_empty() {

@@ -83,6 +83,7 @@ fn run(
 fn put_ended(out: &mut String, ended: Ended) -> Result<(), AllocError> {
     let Ended {
         given,
+        unread: _,
         taken,
         finished,
         agreed: _,

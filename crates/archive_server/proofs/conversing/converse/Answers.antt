@@ -1,4 +1,6 @@
 use Rattle.std.proofs.Common.{sym, ◌∙◌}
+use Rattle.hub_exchange.specs.Fault.{RefusesLoadAtHub}
+use Rattle.hub_exchange.specs.Putting.{IsLent}
 use Rattle.archive_server.proofs.DoneLaws.{converses_as}
 use Rattle.archive_server.proofs.OnwardLaws.{gone_back}
 use Rattle.archive_server.proofs.conversing.converse.Goals as goal
@@ -11,7 +13,9 @@ returns-clause-converses g c =
       c.into_parts-pass-2.ensures.same,
       sym (c.new-holder.ensures ∙ c.into_parts-pass.ensures.pass),
     )
-    (converses_as g.H.HubName.opening c.args.role _ _ c.run_exchange-ended.result c.run_exchange-ended.ensures.ok c.run_exchange-ended.ensures.err)
+    (converses_as g.H.HubName.opening (RefusesLoadAtHub (IsLent g.E.AtLending.lent) g.P.Put.refuses_load
+    g.P.Put.has_loaded g.H.HubName.opening) c.args.role _ _ c.run_exchange-ended.result
+    c.run_exchange-ended.ensures.ok c.run_exchange-ended.ensures.err)
 
 -- The clerk learned what was known there.
 pub returns-clause-onward : goal.returns-clause-onward

@@ -20,8 +20,8 @@ returns-in-Err g c =
     let load = c.in-Err.ensures in record {
       stands = tt;
       why = load_refused g.K.Keep.refuses_load (HasFound g.K.Keep.is_up g.K.Keep.holds) c.args.shelf.now
-          c.load.new.self c.args.held.now c.args.digest.now c.in-Err.fault c.refusal_of_shelf.result load.why
-          c.refusal_of_shelf.ensures;
+          c.load.new.self c.args.held.now c.args.digest.now c.in-Err.fault c.refusal_of_load.result load.why
+          c.refusal_of_load.ensures;
       up = load.up;
       kept = load.kept;
     }

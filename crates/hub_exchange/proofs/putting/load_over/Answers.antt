@@ -15,5 +15,5 @@ pub returns-in-Err : goal.returns-in-Err
 returns-in-Err g c = record {
   stands = tt;
   why = load_refused g.P.Put.refuses_load g.P.Put.has_loaded c.args.shelf.now c.load.new.self c.args.held.now
-      c.args.digest.now c.in-Err.fault c.refusal_of_shelf.result c.in-Err.ensures.why c.refusal_of_shelf.ensures;
+      c.args.digest.now c.in-Err.fault c.refusal_of_load.result c.in-Err.ensures.why c.refusal_of_load.ensures;
 }

@@ -1,7 +1,10 @@
-use Rattle.std.proofs.Common.{◌≡◌, List, ℕ, [], length, subst, sym}
+use Rattle.std.proofs.Common.{◌≡◌, List, ℕ, [], length, map, subst, sym}
+use Rattle.head_log.specs.Groups.{joined}
+use Rattle.head_log.specs.Groups.{StandsFor as HasGroups}
 use Rattle.op_log.specs.declared.fault.LogFault.TheVariants.{DamagedHeads}
 use Rattle.op_log.specs.Kept.{StandsFor}
 use Rattle.op_log.specs.Filling.{AreFit}
+use Rattle.op_log.specs.Heads.{group_text}
 use Rattle.op_log.proofs.Fresh.{fresh_left, fresh_seen}
 use Rattle.op_log.proofs.folder.log_in.Goals as goal
 
@@ -25,6 +28,11 @@ returns-in-Err-open-clause-damaged g c n told clean whole them are =
     let bodies = fresh_seen g.B.Start c.in-Ok.files.1 c.in-Ok.ensures.fresh.1 in
     let is : c.in-Err-open.field-0.fault ≡ DamagedHeads n = cc in
     c.in-Err-open.ensures.damaged n is clean whole them (record {
-      stands = subst (λ (f : List ℕ). StandsFor f them) (sym heads) are.stands;
-      fit = subst (λ (f : List ℕ). AreFit (length f) [] them) (sym bodies) are.fit;
+      stands = record {
+        groups = are.stands.groups;
+        are = are.stands.are;
+        laid = subst (λ (f : List ℕ). HasGroups f (map group_text are.stands.groups)) (sym heads) are.stands.laid;
+        spelled = are.stands.spelled;
+      };
+      fit = subst (λ (f : List ℕ). AreFit (length f) [] (joined are.stands.groups)) (sym bodies) are.fit;
     })

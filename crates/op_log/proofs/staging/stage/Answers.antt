@@ -14,7 +14,8 @@ returns-clause-settled g c =
     let mid = c.stage_each.new.bodies in
     let new = c.settle.new.self in
     settled g.B.Disk mid new (synced g.B.Disk mid new c.settle.ensures.spared c.settle.ensures.end c.settle.ensures.seen) c.in_ok-settle.ensures.settled
-    c.settle.ensures.seen c.args.places.now c.stage_each.new.places _ c.stage_each.new.group c.args.ops.now c.new.ensures.items c.new-2.ensures.items c.in_ok-stage_each.ensures.staged
+    c.settle.ensures.seen c.args.places.now c.stage_each.new.places c.args.group.now c.stage_each.new.group c.args.ops.now
+    c.requires.begun c.in_ok-stage_each.ensures.staged
 
 -- It grew, and a sync changes no byte.
 pub returns-clause-grows : goal.returns-clause-grows

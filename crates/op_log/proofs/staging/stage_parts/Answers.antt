@@ -1,48 +1,73 @@
-use Rattle.std.proofs.Common.{rules, ◌≡◌, ◌+◌, Ok, Some, true, length, refl, ap, ◌∙◌, arith}
-use Rattle.std.proofs.lemmas.List.{length-append}
-use Rattle.body_log.specs.Log.{disk_of, end_of}
-use Rattle.op_log.specs.Heads.{head_text}
+use Rattle.std.proofs.Common.{rules, ◌≡◌, ◌++◌, ◌∷◌, [], List, ℕ, Ok, inl, length, sym, ap, ◌∙◌, arith}
+use Rattle.std.proofs.lemmas.List.{append-nil, length-append}
+use Rattle.std.proofs.lemmas.List.Elements.{All-cons, All-nil, All-same}
+use Rattle.body_log.specs.Log.{end_of}
+use Rattle.op_log.specs.declared.finding.Found.TheVariants.{Unreadable}
+use Rattle.op_log.specs.Heads.{IsSpelled, head_text}
 use Rattle.op_log.specs.Kept.{IsBelow}
-use Rattle.op_log.specs.Places.{head_by}
 use Rattle.op_log.specs.Spelled.{head_spelled}
 use Rattle.op_log.proofs.Cutting.{head_long}
-use Rattle.op_log.proofs.Faults.{counts_on}
-use Rattle.op_log.proofs.Growing.{reaches_less}
-use Rattle.op_log.proofs.Lookups.{among}
+use Rattle.op_log.proofs.Growing.{below_on, grows_twice, unread_on}
+use Rattle.op_log.proofs.Settling.{with_all}
 use Rattle.op_log.proofs.staging.stage_parts.Goals as goal
 
--- One head more stands behind the others.
-pub returns-in_default-clause-long : goal.returns-in_default-clause-long
-returns-in_default-clause-long g c =
-    let h = head_spelled c.args.spelled.now (end_of c.args.bodies.now) in
-    let text = ap length c.in_ok-add_new.ensures.text in
+-- What can't be read under the digest is put anew.
+pub returns-in_ok-add_new-in-Unreadable-clause-staged : goal.returns-in_ok-add_new-in-Unreadable-clause-staged
+returns-in_ok-add_new-in-Unreadable-clause-staged g c =
+    let s = c.args.spelled.now in
+    let mid = c.found_under.new.bodies in
+    let new = c.add_new.new.bodies in
+    let put = c.in_ok-add_new-in-Unreadable.ensures in
+    let is : c.found_under.result ≡ Ok Unreadable = search rules in (
+      unread_on g.B.Disk mid new c.add_new.ensures.grows s.digest.now s.front.now c.args.places.now
+          (c.found_under.ensures.unread is),
+      (end_of mid, put.added, put.lawful, λ some. (put.held some, put.end)),
+    )
+
+-- Its head stands behind the others of the group.
+pub returns-in_ok-add_new-in-Unreadable-clause-text : goal.returns-in_ok-add_new-in-Unreadable-clause-text
+returns-in_ok-add_new-in-Unreadable-clause-text g c =
+    let h = head_spelled c.args.spelled.now (end_of c.found_under.new.bodies) in
+    let before = c.args.group.now.text.items in
+    let put = c.in_ok-add_new-in-Unreadable.ensures in
+    record {
+      heads = h ∷ [];
+      spelled = All-cons IsSpelled h [] put.lawful (All-nil IsSpelled);
+      new_is = put.added;
+      text_is = put.text ∙ ap (λ (text : List ℕ). before ++ text) (sym (append-nil (head_text h)));
+    }
+
+-- One head more stands there.
+pub returns-in_ok-add_new-in-Unreadable-clause-long : goal.returns-in_ok-add_new-in-Unreadable-clause-long
+returns-in_ok-add_new-in-Unreadable-clause-long g c =
+    let h = head_spelled c.args.spelled.now (end_of c.found_under.new.bodies) in
+    let put = c.in_ok-add_new-in-Unreadable.ensures in
+    let text = ap length put.text in
     let parts = length-append c.args.group.now.text.items (head_text h) in
-    omega (arith, text, parts, head_long h c.in_ok-add_new.ensures.lawful)
+    omega (arith, text, parts, head_long h put.lawful)
 
--- The place lies below the end.
-pub returns-in_err-lies_at-clause-disk : goal.returns-in_err-lies_at-clause-disk
-returns-in_err-lies_at-clause-disk g c =
+-- What was replaced is kept, and the data set lies below the end.
+pub returns-in_ok-add_new-in-Unreadable-clause-places : goal.returns-in_ok-add_new-in-Unreadable-clause-places
+returns-in_ok-add_new-in-Unreadable-clause-places g c =
     let old = c.args.bodies.now in
-    let digest = c.args.spelled.now.digest.now in
-    let h = head_by digest c.in-Some.place.now in
-    let low = among (IsBelow (end_of old)) c.args.places.now digest h c.in-Some.ensures.found c.requires.below in
-    counts_on c.from_residual-in_err-lies_at.result c.in_err-lies_at.field-0.0 (g.B.Disk.faults (disk_of old))
-    (g.B.Disk.faults (disk_of c.lies_at.new.bodies)) c.from_residual-in_err-lies_at.ensures.1
-    λ told reach. c.in_err-lies_at.ensures.disk told (reaches_less g.B.Disk old (h.at + h.size) low reach)
+    let new = c.add_new.new.bodies in
+    let heads = c.args.places.now in
+    let h = head_spelled c.args.spelled.now (end_of c.found_under.new.bodies) in
+    let put = c.in_ok-add_new-in-Unreadable.ensures in
+    let grows = grows_twice g.B.Disk old c.found_under.new.bodies new c.found_under.ensures.grows c.add_new.ensures.grows in
+    record {
+      undone = c.add_new.ensures.undone;
+      below = λ low.
+          All-same (IsBelow (end_of new)) c.add_new.new.places _ put.added
+          (with_all (IsBelow (end_of new)) heads h (below_on (end_of old) (end_of new) heads grows.longer low) put.end);
+    }
 
--- The operation lies where the first head with its digest says.
-pub returns-clause-staged : goal.returns-clause-staged
-returns-clause-staged g c = (
-  λ clean.
-      let s = c.args.spelled.now in
-      let place = c.in-Some.place.now in
-      let yes : c.lies_at.result ≡ Ok true = search rules in
-      let parts = c.lies_at.ensures.same yes clean in
-      let found = c.in-Some.ensures.found in
-      let low = among (IsBelow (end_of c.args.bodies.now)) c.args.places.now s.digest.now (head_by s.digest.now place) found c.requires.below in (
-        place.at,
-        found ∙ λ i. Some (record { digest = s.digest.now; front = parts.front i; at = place.at; size = parts.size i }),
-        λ some. (parts.held (omega (arith, some, parts.size)), omega (arith, low, parts.size, c.lies_at.ensures.grows.longer)),
-      ),
-  refl,
-)
+-- A test and a write spare what lies there.
+pub returns-in_err-add_new-in-Unreadable-clause-grows : goal.returns-in_err-add_new-in-Unreadable-clause-grows
+returns-in_err-add_new-in-Unreadable-clause-grows g c =
+    grows_twice g.B.Disk c.args.bodies.now c.found_under.new.bodies c.add_new.new.bodies c.found_under.ensures.grows c.add_new.ensures.grows
+
+-- And so where all went well.
+pub returns-in_ok-add_new-in-Unreadable-clause-grows : goal.returns-in_ok-add_new-in-Unreadable-clause-grows
+returns-in_ok-add_new-in-Unreadable-clause-grows g c =
+    grows_twice g.B.Disk c.args.bodies.now c.found_under.new.bodies c.add_new.new.bodies c.found_under.ensures.grows c.add_new.ensures.grows

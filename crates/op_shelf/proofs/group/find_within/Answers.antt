@@ -1,18 +1,19 @@
-use Rattle.std.proofs.Common.{◌≡◌, ◌≢◌, ◌<◌, [], All, Any, length, subst}
+use Rattle.std.proofs.Common.{◌≡◌, ◌≢◌, ◌<◌, All, Any, length, subst}
+use Rattle.std.proofs.lemmas.List.Sorted.{All-permutation, IsPermutation-sym}
 use Rattle.sqlite.specs.Held.{state}
-use Rattle.op_shelf.specs.Entries.{entry_by}
+use Rattle.op_shelf.specs.Entries.{IsWhole, entry_by}
 use Rattle.op_shelf.specs.States.{rows_of, under}
-use Rattle.op_shelf.proofs.Ops.{none_in, any_in}
+use Rattle.op_shelf.proofs.Ops.{any_in}
 use Rattle.op_shelf.proofs.Puts.{known_from}
 use Rattle.op_shelf.proofs.group.find_within.Goals as goal
 
--- No row is shown where none is there.
-pub returns-clause-absent : goal.returns-clause-absent
-returns-clause-absent g c clean none =
-    let rows : c.in_ok-held.held.items ≡ [] = subst (λ r. r ≡ []) c.deref.ensures.value (c.find_in.ensures.absent none)
-    in
-    none_in (under c.args.digest.now (rows_of (state g.S.Store c.args.part.now.conn.now))) c.in_ok-held.held.items
-    (c.in_ok-held.ensures.rows clean) rows
+-- What is shown is what is there.
+pub returns-clause-spoiled : goal.returns-clause-spoiled
+returns-clause-spoiled g c clean none =
+    let all = under c.args.digest.now (rows_of (state g.S.Store c.args.part.now.conn.now)) in
+    let rows = c.in_ok-held.held.items in
+    All-permutation (λ e. ¬ IsWhole e) rows all (IsPermutation-sym all rows (c.in_ok-held.ensures.rows clean))
+    (subst (All (λ e. ¬ IsWhole e)) c.deref.ensures.value (c.find_in.ensures.spoiled none))
 
 -- All rows that are shown are the entry.
 pub returns-clause-known : goal.returns-clause-known
@@ -27,11 +28,14 @@ returns-clause-known g c clean there =
     (entry_by c.args.digest.now c.args.body.now)
     c.in_ok-held.held.items (c.in_ok-held.ensures.rows clean) some all (c.in_ok-held.ensures.same clean)
 
--- Another row that is shown is in the table.
+-- Another row that is shown is in the table, and so is one that has its bytes.
 pub returns-clause-bad_row : goal.returns-clause-bad_row
 returns-clause-bad_row g c clean bad =
-    any_in (λ e. e ≢ entry_by c.args.digest.now c.args.body.now)
-    (under c.args.digest.now (rows_of (state g.S.Store c.args.part.now.conn.now))) c.in_ok-held.held.items
-    (c.in_ok-held.ensures.rows clean)
-    (subst (λ r. Any (λ e. e ≢ entry_by c.args.digest.now c.args.body.now) r) c.deref.ensures.value
-    (c.find_in.ensures.other bad))
+    let entry = entry_by c.args.digest.now c.args.body.now in
+    let all = under c.args.digest.now (rows_of (state g.S.Store c.args.part.now.conn.now)) in
+    let found = c.find_in.ensures.other bad in (
+      any_in (λ e. e ≢ entry) all c.in_ok-held.held.items (c.in_ok-held.ensures.rows clean)
+          (subst (Any (λ e. e ≢ entry)) c.deref.ensures.value found.0),
+      any_in IsWhole all c.in_ok-held.held.items (c.in_ok-held.ensures.rows clean)
+          (subst (Any IsWhole) c.deref.ensures.value found.1),
+    )

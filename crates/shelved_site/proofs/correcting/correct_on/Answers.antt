@@ -1,16 +1,17 @@
-use Rattle.std.proofs.Common.{◌≡◌, sym, subst, ◌∙◌}
-use Rattle.std.proofs.lemmas.Result.{IfErr-weaker, IfOk-weaker, err_from_is_err_and}
+use Rattle.std.proofs.Common.{◌≡◌, Err, ap, refl, sym, subst, ◌∙◌}
+use Rattle.std.proofs.lemmas.Result.{err_from_is_err_and}
 use Rattle.site_hub.specs.declared.fault.HubFault.TheVariants.{BadCorrection, StampsSpent}
 use Rattle.shelved_site.specs.declared.fault.ShelvedFault.TheVariants.{Hub}
+use Rattle.shelved_site.specs.Readable.{Shown}
 use Rattle.shelved_site.specs.Sites.{IsBeforeHub}
-use Rattle.shelved_site.proofs.Sites.{before_hub, corrected_in, no_hub, spent_in, unmade_in}
+use Rattle.shelved_site.proofs.Sites.{before_hub, corrected_in, no_hub, site_since, spent_in, unmade_in}
 use Rattle.shelved_site.proofs.correcting.correct_on.Goals as goal
 
 -- The store refused, or its site did.
 pub returns-in_err-site-clause-unmade : goal.returns-in_err-site-clause-unmade
 returns-in_err-site-clause-unmade g c clean =
     let out = err_from_is_err_and c.from_residual.result c.from_residual.ensures.1 in
-    rw out.1 (before_hub (g.S.Store.lists c.args.store.now) c.args.number c.args.target c.args.tag c.args.value out.0
+    rw out.1 (before_hub (Shown (g.S.Store.shows c.args.store.now)) c.args.number c.args.target c.args.tag c.args.value out.0
     (subst IsBeforeHub (sym out.2) c.in_err-site.ensures.fault))
 
 -- That is no bad correction.
@@ -28,28 +29,45 @@ returns-in_err-site-clause-stamps_spent g c clean spent =
     absurd (no_hub out.0 StampsSpent (subst IsBeforeHub (sym out.2) c.in_err-site.ensures.fault) is)
 
 -- What comes next at the site comes next in the store.
-pub returns-clause-corrected : goal.returns-clause-corrected
-returns-clause-corrected g c clean =
-    let it = c.in_ok-site.ensures.site (c.correct_with.ensures.clean clean) in
-    IfOk-weaker c.correct_with.result _ _
-    (λ told next. corrected_in (g.S.Store.lists c.args.store.now) c.in_ok-site.site c.args.number c.args.target c.args.tag
-    c.args.value (g.S.Store.is_left c.correct_with.new.store) told it next) (c.correct_with.ensures.corrected clean)
+pub returns-in-Ok-clause-corrected : goal.returns-in-Ok-clause-corrected
+returns-in-Ok-clause-corrected g c clean =
+    let store = c.args.store.now in
+    let mid = c.site_on.new.store in
+    let sited = c.in_ok-site.field-0 in
+    let told = sited.unreadable.items in
+    let it = site_since (g.S.Store.reads store mid told) (g.S.Store.shows store told) sited.site sited.site
+    (g.met.S.Store.read_shows store mid told) refl (c.in_ok-site.ensures.site (c.correct_with.ensures.clean clean)) in
+    corrected_in (g.S.Store.shows store told) sited.site c.args.number c.args.target c.args.tag c.args.value
+    (g.S.Store.is_left c.correct_with.new.store) c.in-Ok.corrected it (c.in-Ok.ensures.corrected clean)
 
 -- The store was only read before it refused the correction.
 pub returns-clause-refused : goal.returns-clause-refused
 returns-clause-refused g c clean =
-    c.correct_with.ensures.refused clean c.args.store.now (c.in_ok-site.ensures.same (c.correct_with.ensures.clean clean))
+    c.in-Err.ensures.refused clean c.args.store.now (c.in_ok-site.ensures.same (c.correct_with.ensures.clean clean))
 
 -- What was not made at the site was not made in the store.
 pub returns-clause-unmade : goal.returns-clause-unmade
 returns-clause-unmade g c clean =
-    let it = c.in_ok-site.ensures.site (c.correct_with.ensures.clean clean) in
-    IfErr-weaker c.correct_with.result _ _
-    (λ fault unmade. unmade_in (g.S.Store.lists c.args.store.now) c.in_ok-site.site c.args.number c.args.target c.args.tag
-    c.args.value fault it unmade) c.correct_with.ensures.unmade
+    let store = c.args.store.now in
+    let mid = c.site_on.new.store in
+    let sited = c.in_ok-site.field-0 in
+    let told = sited.unreadable.items in
+    let it = site_since (g.S.Store.reads store mid told) (Shown (g.S.Store.shows store)) sited.site sited.site
+    (λ ops read. (told, g.met.S.Store.read_shows store mid told ops read)) refl
+    (c.in_ok-site.ensures.site (c.correct_with.ensures.clean clean)) in
+    unmade_in (Shown (g.S.Store.shows store)) sited.site c.args.number c.args.target c.args.tag c.args.value c.in-Err.fault it
+    c.in-Err.ensures.unmade
 
 -- The last counter at the site is the last in the store.
 pub returns-clause-stamps_spent : goal.returns-clause-stamps_spent
 returns-clause-stamps_spent g c clean spent =
-    spent_in (g.S.Store.lists c.args.store.now) c.in_ok-site.site c.args.number c.args.target c.args.tag c.args.value
-    (c.in_ok-site.ensures.site (c.correct_with.ensures.clean clean)) (c.correct_with.ensures.stamps_spent spent)
+    let is : c.in-Err.fault ≡ Hub StampsSpent = cc in
+    let store = c.args.store.now in
+    let mid = c.site_on.new.store in
+    let sited = c.in_ok-site.field-0 in
+    let told = sited.unreadable.items in
+    let it = site_since (g.S.Store.reads store mid told) (Shown (g.S.Store.shows store)) sited.site sited.site
+    (λ ops read. (told, g.met.S.Store.read_shows store mid told ops read)) refl
+    (c.in_ok-site.ensures.site (c.correct_with.ensures.clean clean)) in
+    spent_in (Shown (g.S.Store.shows store)) sited.site c.args.number c.args.target c.args.tag c.args.value it
+    (c.in-Err.ensures.stamps_spent (ap Err is))

@@ -3,7 +3,8 @@ use Rattle.std.proofs.lemmas.List.Elements.{All-get_or}
 use Rattle.std.proofs.lemmas.Result.{err_from_is_err_and}
 use Rattle.operation.specs.declared.op.Op.{Op}
 use Rattle.shelved_site.specs.Recorded.{AreLoaded, HasOperation}
-use Rattle.shelved_site.proofs.Loaded.{has_on, loaded_more, loaded_on}
+use Rattle.shelved_site.specs.Readable.{Shown}
+use Rattle.shelved_site.proofs.Loaded.{has_on, loaded_more, loaded_on, shown_on}
 use Rattle.shelved_site.proofs.moving.load_group.Goals as goal
 
 -- One operation more was loaded.
@@ -19,11 +20,12 @@ loop-one-preserved g c =
           (was.same (c.load_recorded.ensures.clean clean) first same) (read.same clean);
       loaded = λ clean first same.
           let early = c.load_recorded.ensures.clean clean in
-          let here = g.met.F.Store.same_lists first mid (was.same early first same) in
-          let one = loaded_on (g.F.Store.lists first) (g.F.Store.lists mid) c.one-item.result c.in_ok-op.op here (read.loaded clean) in
-          let more = loaded_more (g.F.Store.lists first) c.args.recorded.now c.loop-one.one-index _
+          let here = shown_on (g.F.Store.shows first) (g.F.Store.shows mid)
+          (g.met.F.Store.same_shows first mid (was.same early first same)) in
+          let one = loaded_on (Shown (g.F.Store.shows first)) (Shown (g.F.Store.shows mid)) c.one-item.result c.in_ok-op.op here (read.loaded clean) in
+          let more = loaded_more (Shown (g.F.Store.shows first)) c.args.recorded.now c.loop-one.one-index _
           c.one-item.result c.loop-one.ops.items c.in_ok-op.op (search rules) c.one-item.is (was.loaded early first same) one in
-          subst (λ (ops : List Op). AreLoaded (g.F.Store.lists first) (take (c.loop-one.one-index + 1) c.args.recorded.now) ops)
+          subst (λ (ops : List Op). AreLoaded (Shown (g.F.Store.shows first)) (take (c.loop-one.one-index + 1) c.args.recorded.now) ops)
           (sym c.in_ok-push.ensures.items) more;
     }
 
@@ -40,11 +42,11 @@ returns-in_err-op-clause-why g c clean first same have =
     let out = err_from_is_err_and c.from_residual.result c.from_residual.ensures.1 in
     let mid = c.loop-one.from in
     let new = c.load_recorded.new.self in
-    let lists = g.F.Store.lists first in
+    let lists = Shown (g.F.Store.shows first) in
     let here = c.loop-one.invariant.same (c.load_recorded.ensures.clean clean) first same in
     let it = subst (HasOperation lists) (sym c.one-item.is)
     (All-get_or (HasOperation lists) c.args.recorded.now c.loop-one.one-index _ (search rules) have) in
-    let there = has_on lists (g.F.Store.lists mid) c.one-item.result (g.met.F.Store.same_lists first mid here) it in
+    let there = has_on lists (Shown (g.F.Store.shows mid)) c.one-item.result (shown_on (g.F.Store.shows first) (g.F.Store.shows mid) (g.met.F.Store.same_shows first mid here)) it in
     let why = c.in_err-op.ensures.why clean there in
     rw (out.1, out.2) (record {
       before = mid;
@@ -70,7 +72,7 @@ returns-in_err-push-clause-why g c clean first same have =
     let mid = c.loop-one.from in
     let new = c.load_recorded.new.self in
     let here = c.loop-one.invariant.same (c.load_recorded.ensures.clean clean) first same in
-    let lists = g.F.Store.lists first in
+    let lists = Shown (g.F.Store.shows first) in
     let it = subst (HasOperation lists) (sym c.one-item.is)
     (All-get_or (HasOperation lists) c.args.recorded.now c.loop-one.one-index _ (search rules) have) in
     rw (out.1, out.2) (record {

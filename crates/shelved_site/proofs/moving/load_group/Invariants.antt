@@ -1,4 +1,5 @@
 use Rattle.std.proofs.Common.{take}
+use Rattle.shelved_site.specs.Readable.{Shown}
 use Rattle.shelved_site.specs.Recorded.{AreLoaded}
 use Rattle.shelved_site.proofs.moving.load_group.Given as goal
 
@@ -10,5 +11,5 @@ invariant-loop-one g l =
       same : g.F.Store.is_clean l.from → (first : g.row.F.Denot) → g.F.Store.is_same first l.fn.from
           → g.F.Store.is_same first l.from;
       loaded : g.F.Store.is_clean l.from → (first : g.row.F.Denot) → g.F.Store.is_same first l.fn.from
-          → AreLoaded (g.F.Store.lists first) (take l.one-index l.recorded) l.ops.items;
+          → AreLoaded (Shown (g.F.Store.shows first)) (take l.one-index l.recorded) l.ops.items;
     }

@@ -5,6 +5,7 @@ use Rattle.std.proofs.lemmas.Result.{err_from_is_err_and}
 use Rattle.std.specs.Slice.Iter.{chunks_rest}
 use Rattle.operation.specs.declared.op.Op.{Op}
 use Rattle.shelved_site.specs.Moving.{AreBrought}
+use Rattle.shelved_site.specs.Readable.{Shown}
 use Rattle.shelved_site.specs.Recorded.{HasOperation}
 use Rattle.shelved_site.proofs.Loaded.{brought_more, brought_some, none_brought, of_group, same_long}
 use Rattle.shelved_site.proofs.Moves.{few_put}
@@ -21,7 +22,7 @@ loop-group-init g c = record {
     [],
     search rules,
     λ clean up first same.
-        none_brought (g.F.Store.lists first) (g.T.Keep.holds c.args.to.now) (g.T.Keep.lasts c.args.to.now),
+        none_brought (Shown (g.F.Store.shows first)) (g.T.Keep.holds c.args.to.now) (g.T.Keep.lasts c.args.to.now),
   );
   up = λ up. up;
   kept = λ up op was. was;
@@ -46,7 +47,7 @@ loop-group-preserved g c =
         done ++ group,
         parts,
         λ clean up first same.
-            let lists = g.F.Store.lists first in
+            let lists = Shown (g.F.Store.shows first) in
             let old = g.T.Keep.holds c.args.to.now in
             let mid = g.T.Keep.holds c.loop-group.to in
             let new = g.T.Keep.holds c.move_group.new.to in
@@ -74,7 +75,7 @@ returns-in_err-more-clause-part g c clean up first same =
     let call = c.move_group.ensures in
     let before = was.put.2 (call.clean clean) (call.up up) first same in
     let out = err_from_is_err_and c.from_residual.result c.from_residual.ensures.1 in
-    rw out.1 (brought_some (g.F.Store.lists first) (g.T.Keep.holds c.args.to.now) (g.T.Keep.holds c.loop-group.to)
+    rw out.1 (brought_some (Shown (g.F.Store.shows first)) (g.T.Keep.holds c.args.to.now) (g.T.Keep.holds c.loop-group.to)
     (g.T.Keep.holds c.move_group.new.to) (g.T.Keep.lasts c.loop-group.to) was.put.0 (chunks_rest c.loop-group.group-iterator)
     c.args.recorded.items c.loop-group.new (g.met.T.Store.alike c.args.to.now) was.put.1 before (c.in_err-more.ensures.refused up))
 
@@ -94,7 +95,7 @@ returns-clause-moved g c clean up first same =
     let was = c.loop-group.invariant in
     let none = nil_from_length (chunks_rest c.loop-group.group-iterator) c.in-None.ensures.steps.1.0 in
     let all = sym (append-nil was.put.0) ∙ ap (λ (ops : List Op). was.put.0 ++ ops) (sym none) ∙ was.put.1 in
-    subst (λ (rs : List Op). AreBrought (g.F.Store.lists first) (g.T.Keep.holds c.args.to.now) (g.T.Keep.holds c.loop-group.to)
+    subst (λ (rs : List Op). AreBrought (Shown (g.F.Store.shows first)) (g.T.Keep.holds c.args.to.now) (g.T.Keep.holds c.loop-group.to)
     (g.T.Keep.lasts c.loop-group.to) rs c.loop-group.new) all (was.put.2 clean up first same)
 
 -- The first was read alone, all the way.
@@ -107,7 +108,7 @@ pub returns-in_err-more-clause-unread : goal.returns-in_err-more-clause-unread
 returns-in_err-more-clause-unread g c clean first same have =
     let out = err_from_is_err_and c.from_residual.result c.from_residual.ensures.1 in
     let was = c.loop-group.invariant in
-    let lists = g.F.Store.lists first in
+    let lists = Shown (g.F.Store.shows first) in
     let group = c.in-Some.group.now in
     let rest = chunks_rest c.next.new.self in
     let parts = ap (λ (ops : List Op). was.put.0 ++ ops) (sym c.in-Some.ensures.steps.1.0) ∙ was.put.1 in

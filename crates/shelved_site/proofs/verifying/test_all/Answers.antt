@@ -1,14 +1,13 @@
-use Rattle.std.proofs.Common.{rules, ◌<◌, ◌++◌, ◌∷◌, [], ℕ, List, cond, length, refl, sym, ap, ◌∙◌, arith}
-use Rattle.std.proofs.Common.{slice_get}
+use Rattle.std.proofs.Common.{rules, inl, ◌<◌, ℕ, List, length, refl, subst, ap, ◌∙◌, arith}
+use Rattle.std.proofs.Common.{slice_get, take}
 use Rattle.std.proofs.lemmas.Result.{err_from_is_err_and}
+use Rattle.sqlite_disk.specs.Disk.{MoreFaults}
 use Rattle.op_log.specs.Heads.{Head}
-use Rattle.op_log.specs.Verified.{is_whole}
-use Rattle.op_shelf.specs.declared.damaged.Damaged.{Damaged}
 use Rattle.shelved_site.specs.Keeping.{Holds}
-use Rattle.shelved_site.specs.Verifying.{damage_of}
+use Rattle.shelved_site.specs.Verifying.{IsTestedOf}
 use Rattle.shelved_site.proofs.Logs.{same_of, was_up}
 use Rattle.shelved_site.proofs.Stays.{has_twice, looked, looks_twice, same_self, same_twice}
-use Rattle.shelved_site.proofs.Tests.{head_at, told_next}
+use Rattle.shelved_site.proofs.Tests.{head_at, rises_twice, rose_first, rose_then, tested_later, told_later, told_next}
 use Rattle.shelved_site.proofs.verifying.test_all.Goals as goal
 
 -- None was tested.
@@ -17,7 +16,7 @@ loop-index-init g c = record {
   looks = (same_self g.B.Disk c.args.log.now).looks;
   seen = refl;
   usable = refl;
-  calm = refl;
+  rises = inl refl;
   up = λ up. up;
   same = λ up. same_self g.B.Disk c.args.log.now;
   told = λ up. search rules;
@@ -35,20 +34,29 @@ loop-index-preserved g c =
     let step = c.test_at.ensures in
     let low : c.loop-index.index < length old.places = search (arith, rules) in
     let (h, at) = head_at old.places c.loop-index.index low in
+    let first = gb.faults old.bodies in
+    let then = gb.faults mid.bodies in
+    let last = gb.faults new.bodies in
     record {
       looks = looks_twice old mid new was.looks step.looks;
       seen = step.seen ∙ was.seen;
       usable = step.usable ∙ was.usable;
-      calm = c.in_ok-test_at.ensures.disk ∙ was.calm;
+      rises = rises_twice first then last was.rises c.in_ok-test_at.ensures.rises;
       up = λ up. was.up (was_up gh gb mid new step.goes_on up);
       same = λ up. same_twice gb old mid new (was.same (was_up gh gb mid new step.goes_on up))
           (looked gh gb mid new step.goes_on up step.looks);
       told = λ up.
+          let file = gb.seen old.bodies in
           let before = was.told (was_up gh gb mid new step.goes_on up) in
-          let more = c.in_ok-test_at.ensures.tested up.bodies h (ap (λ (hs : List Head). slice_get hs c.loop-index.index) was.looks.places ∙ at) in
-          more ∙ ap (λ (file : List ℕ). c.loop-index.damaged.items ++ cond (is_whole file h) [] (damage_of h ∷ [])) was.seen
-          ∙ ap (λ (ds : List Damaged). ds ++ cond (is_whole (gb.seen old.bodies) h) [] (damage_of h ∷ [])) before
-          ∙ sym (told_next (gb.seen old.bodies) old.places c.loop-index.index h at);
+          let here = ap (λ (hs : List Head). slice_get hs c.loop-index.index) was.looks.places ∙ at in
+          let tested = subst (λ (bytes : List ℕ). IsTestedOf bytes (MoreFaults then last) h c.loop-index.damaged.items
+          c.test_at.new.damaged.items) was.seen (c.in_ok-test_at.ensures.tested up.bodies h here) in
+          let told = told_later file (MoreFaults first then) (MoreFaults first last) (take c.loop-index.index old.places)
+          c.loop-index.damaged.items (rose_first first then last c.in_ok-test_at.ensures.rises) before in
+          told_next file (MoreFaults first last) old.places c.loop-index.index h c.loop-index.damaged.items
+          c.test_at.new.damaged.items at told
+          (tested_later file (MoreFaults then last) (MoreFaults first last) h c.loop-index.damaged.items
+          c.test_at.new.damaged.items (rose_then first then last was.rises) tested);
     }
 
 -- A look that is refused leaves all heads in memory.

@@ -1,5 +1,7 @@
 use Rattle.std.proofs.Common.{All, IsTrue, [], ℕ, Err, map, subst, sym, ap, ◌∙◌, arith}
-use Rattle.head_log.specs.Log.{disk_of as heads_of, end_of as heads_end}
+use Rattle.head_log.specs.declared.gate.Gate.{Gate}
+use Rattle.head_log.specs.Log.{disk_of as heads_of, gate_of as heads_end}
+use Rattle.head_log.specs.Groups.{joined}
 use Rattle.head_log.proofs.Gates.{groups_not_cut}
 use Rattle.op_log.specs.Filling.{AreFit}
 use Rattle.op_log.specs.Heads.{body_of, group_text}
@@ -42,9 +44,10 @@ invariant_of-result g c =
       below = subst (λ (n : ℕ). All (IsBelow n) places) c.end.ensures c.in-Ok-walk.ensures.below;
       reach = c.in-Ok-over.ensures.reach;
       kept = λ clean opens.
-          subst (λ (n : ℕ). IsKept g.H.Disk (heads_of walked) n places) (sym same.same)
+          subst (λ (n : Gate). IsKept g.H.Disk (heads_of walked) n places) (sym same.same)
           (walked_kept g.H.Disk (heads_of heads) (heads_of walked) c.end.result (heads_end heads) places same.disk
-          (c.in-Ok.ensures.ended (same.disk.clean clean)) (c.in-Ok-walk.ensures.laid clean));
+          (c.in-Ok.ensures.ended (same.disk.clean clean))
+          (c.in-Ok-walk.ensures.laid clean (c.in-Ok.ensures.gates (same.disk.clean clean))));
     }
 
 -- It is what the log shows.
@@ -58,18 +61,19 @@ returns-in-Ok-walk-clause-sound g c =
       below = subst (λ (n : ℕ). All (IsBelow n) places) c.end.ensures c.in-Ok-walk.ensures.below;
       reach = c.in-Ok-over.ensures.reach;
       kept = λ clean opens.
-          subst (λ (n : ℕ). IsKept g.H.Disk (heads_of walked) n places) (sym same.same)
+          subst (λ (n : Gate). IsKept g.H.Disk (heads_of walked) n places) (sym same.same)
           (walked_kept g.H.Disk (heads_of heads) (heads_of walked) c.end.result (heads_end heads) places same.disk
-          (c.in-Ok.ensures.ended (same.disk.clean clean)) (c.in-Ok-walk.ensures.laid clean));
+          (c.in-Ok.ensures.ended (same.disk.clean clean))
+          (c.in-Ok-walk.ensures.laid clean (c.in-Ok.ensures.gates (same.disk.clean clean))));
     }
 
 -- All that the file stands for lies up to the end of its groups, and was walked.
 pub returns-in-Ok-walk-clause-found : goal.returns-in-Ok-walk-clause-found
 returns-in-Ok-walk-clause-found g c clean them stands =
     let heads = c.in-Ok.heads in
-    let found = c.in-Ok.ensures.found (c.walk.ensures.same.disk.clean clean) in
-    found_all g.H.Disk c.args.heads (heads_of heads) (λ f. g.met.H.Disk.seen_may_stay f) (heads_end heads) found c.end.result
-    c.in-Ok-walk.places them (c.in-Ok-walk.ensures.laid clean) stands
+    let was = c.walk.ensures.same.disk.clean clean in
+    found_all g.H.Disk c.args.heads (heads_of heads) (λ f. g.met.H.Disk.seen_may_stay f) (heads_end heads) (c.in-Ok.ensures.found was) c.end.result
+    c.in-Ok-walk.places them (c.in-Ok-walk.ensures.laid clean (c.in-Ok.ensures.gates was)) stands
 
 -- What the file had lasts.
 pub returns-in-Ok-walk-clause-lasting : goal.returns-in-Ok-walk-clause-lasting
@@ -101,11 +105,12 @@ pub returns-in-Ok-walk-clause-whole : goal.returns-in-Ok-walk-clause-whole
 returns-in-Ok-walk-clause-whole g c clean whole =
     let heads = c.in-Ok.heads in
     let was = c.walk.ensures.same.disk.clean clean in
-    let laid = c.in-Ok-walk.ensures.laid clean in
+    let laid = c.in-Ok-walk.ensures.laid clean (c.in-Ok.ensures.gates was) in
+    let (stands, fit) = whole_of g.H.Disk c.args.heads (heads_of heads) (λ f. g.met.H.Disk.seen_may_stay f) (heads_end heads)
+    (c.in-Ok.ensures.found was) c.end.result c.in-Ok-walk.places (c.in-Ok.ensures.kept was) (c.in-Ok.ensures.ended was) laid in
     record {
-      stands = whole_of g.H.Disk c.args.heads (heads_of heads) (λ f. g.met.H.Disk.seen_may_stay f) (heads_end heads)
-          (c.in-Ok.ensures.found was) c.end.result c.in-Ok-walk.places (c.in-Ok.ensures.kept was) (c.in-Ok.ensures.ended was) laid;
-      fit = subst (λ (n : ℕ). AreFit n [] c.in-Ok-walk.places) (c.end.ensures ∙ c.in-Ok-over.ensures.end whole) laid.fit;
+      stands = stands;
+      fit = subst (λ (n : ℕ). AreFit n [] (joined stands.groups)) (c.end.ensures ∙ c.in-Ok-over.ensures.end whole) fit;
     }
 
 -- Heads that fit would have been walked.
@@ -116,7 +121,7 @@ returns-in-Err-walk-clause-damaged g c n told clean whole them are =
     let found = c.in-Ok.ensures.found (c.walk.ensures.same.disk.clean now) in
     let many = c.end.ensures
     ∙ c.in-Ok-over.ensures.end (subst (λ (f : g.row.B.Denot). IsTrue (g.B.Disk.is_clean f)) c.into_disk-in-Err-walk-2.ensures whole) in
-    let fit = subst (λ (m : ℕ). AreFit m [] them) (sym many) are.fit in
+    let fit = subst (λ (m : ℕ). AreFit m [] (joined are.stands.groups)) (sym many) are.fit in
     c.in-Err-walk.ensures.damaged n (ap Err told) now them
     (laid_of g.H.Disk c.args.heads (heads_of heads) (λ f. g.met.H.Disk.seen_may_stay f) (heads_end heads) found c.end.result them are.stands fit)
 

@@ -6,8 +6,8 @@ use Rattle.op_shelf.specs.Keep.{GainsAll}
 use Rattle.shelved_site.specs.Keeping.{Holds}
 use Rattle.shelved_site.specs.Refusing.{LogRefusesGroup}
 use Rattle.shelved_site.specs.Telling.{kept_of}
-use Rattle.shelved_site.proofs.Keeps.{puts_more, same_length}
-use Rattle.shelved_site.proofs.Logs.{all_last, gains_all, lasts_on, same_of, was_up}
+use Rattle.shelved_site.proofs.Keeps.{same_length}
+use Rattle.shelved_site.proofs.Logs.{all_last, gains_all, lasts_behind, lasts_on, same_of, was_up}
 use Rattle.shelved_site.proofs.Whys.{group_why}
 use Rattle.shelved_site.proofs.keeping.KeptLogKeep.put_many.Goals as goal
 
@@ -41,8 +41,8 @@ pub returns-in-Ok-clause-kept : goal.returns-in-Ok-clause-kept
 returns-in-Ok-clause-kept g c up other was =
     let old = c.args.self.now.log in
     let new = c.put_many.new.self in
-    let more = puts_more g.B.Disk new.bodies new.bodies_end old.places new.places c.args.ops.now c.in-Ok.told.items c.in-Ok.ensures.put in
-    lasts_on g.H.Disk g.B.Disk old new c.put_many.ensures.goes_on up more.0 more.1 other was
+    lasts_behind g.H.Disk g.B.Disk old new c.put_many.ensures.goes_on up c.args.ops.now c.in-Ok.told.items c.in-Ok.ensures.put
+    c.in-Ok.ensures.lasting other was
 
 -- A refusal forgets all.
 pub returns-in-Err-clause-refused : goal.returns-in-Err-clause-refused

@@ -4,6 +4,7 @@ use Rattle.operation.specs.Spelling.{spelling}
 use Rattle.op_log.specs.declared.fault.LogFault.{LogFault}
 use Rattle.op_log.specs.Kept.{first_under}
 use Rattle.op_shelf.specs.declared.fault.ShelfFault.{ShelfFault}
+use Rattle.shelved_site.specs.Readable.{IsAny}
 use Rattle.shelved_site.specs.Refusing.{LogRefusesLoad}
 use Rattle.shelved_site.proofs.Listings.{in_log}
 use Rattle.shelved_site.proofs.Logs.{same_of, was_up}
@@ -13,10 +14,10 @@ use Rattle.shelved_site.proofs.log_store.KeptLogStore.load_recorded.Goals as goa
 
 -- What is listed under the digest is had under it, so it is what is found.
 pub returns-in-Ok-Some-clause-loaded : goal.returns-in-Ok-Some-clause-loaded
-returns-in-Ok-Some-clause-loaded g c up op (ops, listed, among) is =
+returns-in-Ok-Some-clause-loaded g c up op (ops, (told, shown), among) is =
     let log = c.args.self.now.log in
-    let (h, it, has) = in_log g.B.Disk log.bodies log.bodies_end log.places ops op c.see_own_digests.ensures
-    c.load.ensures.goes_on.before.below listed among in
+    let (h, it, has) = in_log g.B.Disk log.bodies log.bodies_end log.places IsAny told ops op
+    c.see_own_digests.ensures c.load.ensures.goes_on.before.below shown among in
     let found : Some c.in-Ok-Some.op ≡ Some op = subst (λ (r : Result (Option Op) LogFault). IfOk r (λ told. told ≡ Some op))
     (c.in-Ok-Some.is ∙ ap (λ (o : Option Op). Ok o) c.in-Ok-Some.field-0-is)
     (c.load.ensures.exact up.bodies op it.lawful (is ∙ sym c.digest.ensures) has) in
@@ -35,10 +36,10 @@ returns-in-Ok-Some-clause-clean g c up =
 
 -- What is listed is had, so it is found.
 pub returns-in-Ok-None-clause-why : goal.returns-in-Ok-None-clause-why
-returns-in-Ok-None-clause-why g c up (op, (ops, listed, among), is) =
+returns-in-Ok-None-clause-why g c up (op, (ops, (told, shown), among), is) =
     let log = c.args.self.now.log in
-    let (h, it, has) = in_log g.B.Disk log.bodies log.bodies_end log.places ops op c.see_own_digests.ensures
-    c.load.ensures.goes_on.before.below listed among in
+    let (h, it, has) = in_log g.B.Disk log.bodies log.bodies_end log.places IsAny told ops op
+    c.see_own_digests.ensures c.load.ensures.goes_on.before.below shown among in
     let found : None ≡ Some op = subst (λ (r : Result (Option Op) LogFault). IfOk r (λ told. told ≡ Some op))
     (c.in-Ok-None.is ∙ ap (λ (o : Option Op). Ok o) c.in-Ok-None.field-0-is)
     (c.load.ensures.exact up.bodies op it.lawful (is ∙ sym c.digest.ensures) has) in

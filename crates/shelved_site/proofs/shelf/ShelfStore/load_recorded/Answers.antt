@@ -13,12 +13,12 @@ use Rattle.shelved_site.proofs.shelf.ShelfStore.load_recorded.Goals as goal
 
 -- What is listed under the digest is in the table, so it is what is found.
 pub returns-in-Ok-Some-clause-loaded : goal.returns-in-Ok-Some-clause-loaded
-returns-in-Ok-Some-clause-loaded g c clean op (ops, listed, among) is =
+returns-in-Ok-Some-clause-loaded g c clean op (ops, (told, shown), among) is =
     let rows = rows_of (state g.S.Store c.args.self.now) in
     subst (λ (r : Result (Option Op) ShelfFault). IfOk r (λ found. IsFoundAs found op))
     (c.in-Ok-Some.is ∙ ap (λ (o : Option Op). Ok o) c.in-Ok-Some.field-0-is)
     (exact digest_text rows c.digest.result.now c.load.result (c.load.ensures.none clean) (c.load.ensures.found clean)
-    c.load.ensures.lawful op (in_table rows ops op listed among) (is ∙ sym c.digest.ensures))
+    c.load.ensures.lawful op (in_table rows told ops op shown among) (is ∙ sym c.digest.ensures))
 
 -- A disk that is clean afterwards was clean.
 pub returns-in-Ok-Some-clause-clean : goal.returns-in-Ok-Some-clause-clean
@@ -26,12 +26,12 @@ returns-in-Ok-Some-clause-clean g c clean = omega (arith, c.load.ensures.crash.c
 
 -- What is listed is in the table, so it is found.
 pub returns-in-Ok-None-clause-why : goal.returns-in-Ok-None-clause-why
-returns-in-Ok-None-clause-why g c clean (op, (ops, listed, among), is) =
+returns-in-Ok-None-clause-why g c clean (op, (ops, (told, shown), among), is) =
     let rows = rows_of (state g.S.Store c.args.self.now) in
     absurd (subst (λ (r : Result (Option Op) ShelfFault). IfOk r (λ found. IsFoundAs found op))
     (c.in-Ok-None.is ∙ ap (λ (o : Option Op). Ok o) c.in-Ok-None.field-0-is)
     (exact digest_text rows c.digest.result.now c.load.result (c.load.ensures.none clean) (c.load.ensures.found clean)
-    c.load.ensures.lawful op (in_table rows ops op listed among) (is ∙ sym c.digest.ensures)))
+    c.load.ensures.lawful op (in_table rows told ops op shown among) (is ∙ sym c.digest.ensures)))
 
 -- Nothing changed.
 pub returns-in-Ok-None-clause-refused : goal.returns-in-Ok-None-clause-refused

@@ -1,0 +1,4 @@
+pub mod Gates
+pub mod Groups
+pub mod Log
+pub mod Renewing
