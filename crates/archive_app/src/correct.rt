@@ -6,9 +6,8 @@ use crate::output::{Cause, CommandFault, Note, line_of_stamp};
 use crate::refused::{Done, Refused, about, done_without, note};
 use command_words::{Change, Correcting, Part, bad_part, unmatched};
 use key_matching::Matching;
-use op_shelf::ShelfFault;
 use operation::Target;
-use shelved_site::{Corrected, Store, correct_with, site_on};
+use shelved_site::{Corrected, Store, correct_on, correct_with};
 use site_hub::{HubFault, next_correction};
 use site_state::Site;
 use std::alloc::Global;
@@ -64,16 +63,8 @@ impl<'a> OnStore for Making<'a> {
             change,
         } = self;
         let Change { target, tag, value } = change;
-        let starting = Starting::begins(rt, file);
-        let sited = match site_on(rt.alloc(), &mut store, &starting) {
-            Ok(sited) => sited,
-            Err(fault) => return Err(CommandFault::from(fault)),
-        };
-        // A row that can't be read may be a correction, whose stamp would be given again.
-        if !sited.unreadable.is_empty() {
-            return Err(CommandFault::Shelf(ShelfFault::BadRow));
-        }
-        match correct_with(&mut store, &sited.site, site, target, tag, value) {
+        let (alloc, starting) = (rt.alloc(), Starting::begins(rt, file));
+        match correct_on(alloc, &mut store, site, target, tag, value, &starting) {
             Ok(made) => Ok((made, 0)),
             Err(fault) => Err(CommandFault::from(fault)),
         }

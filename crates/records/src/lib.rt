@@ -13,4 +13,4 @@ mod recorded_op;
 pub use laws::a_stand_in_is_the_operation;
 pub use recorded_content::RecordedContent;
 pub use recorded_correction::RecordedCorrection;
-pub use recorded_op::{Parts, RecordedOp, see_whole};
+pub use recorded_op::{Parts, RecordedOp};

@@ -2,7 +2,6 @@
 
 ghost use Rattle.std.specs.Prelude.{◌≡◌, ◌≤◌, ◌↔◌, ◌++◌, None, Some, length, IfOk, IsTrue, OnOk};
 ghost use Rattle.std.specs.Option.{option_map};
-ghost use Rattle.octets.specs.Bytes.{IsBytes};
 ghost use Rattle.operation.specs.Parts.{ContentParts, value_at, own_value};
 ghost use Rattle.operation.specs.RecordParts.{content_record};
 ghost use Rattle.operation.specs.RecordTexts.{FitsText, record_text};
@@ -51,11 +50,6 @@ impl Drop for RecordedContent {
         let RecordedContent { record: _ } = self;
     }
 }
-
-/// Each of some bytes is one. Nothing is done: this is a fact for callers.
-pub(crate) fn see_bytes(bytes: &[u8])
-    ensures { IsBytes bytes.now }
-{}
 
 /// Whether the class and the instance of a record have the lengths of UIDs, and its data set is no
 /// longer than any.

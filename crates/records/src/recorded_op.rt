@@ -6,9 +6,9 @@ ghost use Rattle.operation.specs.Spelling.{digest_of};
 ghost use Rattle.operation.specs.declared.op.Op.TheVariants.{Content as a_content, Correction as a_correction};
 ghost use Rattle.records.specs.Parts.{content_in, correction_in};
 ghost use Rattle.records.specs.Kinds.{op_of};
-ghost use Rattle.records.specs.StandIn.{IsOpIn, IsWholeOp, op_in};
+ghost use Rattle.records.specs.StandIn.{IsOpIn, op_in};
 
-use crate::recorded_content::{RecordedContent, see_bytes};
+use crate::recorded_content::RecordedContent;
 use crate::recorded_correction::RecordedCorrection;
 use operation::{Correction, Digest, Digested, Op};
 use std::alloc::{AllocError, Global};
@@ -49,18 +49,6 @@ impl Model for RecordedOp {
 impl Drop for RecordedOp {
     fn drop(self) {
         let RecordedOp { parts: _ } = self;
-    }
-}
-
-/// The parts of an operation are bytes. Nothing is done: this is a fact for callers.
-pub fn see_whole(op: &Op)
-    ensures { IsWholeOp op.now }
-{
-    match op {
-        Op::Content(content) => see_bytes(content.body().as_slice()),
-        Op::Correction(correction) => {
-            let _ = correction.stamp();
-        }
     }
 }
 

@@ -27,7 +27,7 @@ pub before_hub : (lists : List Op → Type 0) (number : ℕ) (target : Target) (
 before_hub lists number target tag value (Shelf _) before = tt
 before_hub lists number target tag value (Site _) before = tt
 before_hub lists number target tag value (Hub _) before = absurd before
-before_hub lists number target tag value Hidden before = absurd before
+before_hub lists number target tag value Hidden before = tt
 
 pub no_hub : (e : ShelvedFault) (fault : HubFault) → IsBeforeHub e → e ≡ Hub fault → ⊥
 no_hub (Shelf _) fault before is = absurd cc
@@ -70,7 +70,7 @@ module _ (lists : List Op → Type 0) (site : Map) (number : ℕ) (target : Targ
       → IsUncorrected lists number target tag value fault
   unmade_in (Shelf _) it unmade = tt
   unmade_in (Site _) it unmade = tt
-  unmade_in Hidden it unmade = absurd unmade
+  unmade_in Hidden it unmade = tt
   unmade_in (Hub fault) it unmade =
       (it.ops, it.listed, ap (λ (m : Map). next_correction number m target tag value) (sym it.took) ∙ unmade)
 

@@ -1,5 +1,5 @@
 -- Corrections that a store keeps.
-use Rattle.std.specs.Prelude.{◌≡◌, ℕ, List, Ok, Err, Bool, false, ⊤}
+use Rattle.std.specs.Prelude.{◌≡◌, ◌<◌, ℕ, List, Ok, Err, Bool, false, ⊤, length}
 use Rattle.std.specs.List.{list_any}
 use Rattle.operation.specs.declared.op.Op.{Op}
 use Rattle.operation.specs.declared.op.Op.TheVariants.{Content as a_content, Correction as a_correction}
@@ -10,6 +10,7 @@ use Rattle.site_state.specs.Site.{Map, ops_of, top_counter_of}
 use Rattle.site_hub.specs.Stamps.{next_correction, LAST_COUNTER}
 use Rattle.shelved_site.specs.Sites.{after_recording}
 use Rattle.shelved_site.specs.declared.correcting.Corrected.{Corrected}
+use Rattle.shelved_site.specs.declared.unreadable.Unreadable.{Unreadable}
 use Rattle.shelved_site.specs.declared.fault.ShelvedFault.{ShelvedFault}
 use Rattle.shelved_site.specs.declared.fault.ShelvedFault.TheVariants.{Shelf, Site, Hub, Hidden}
 
@@ -49,14 +50,21 @@ pub record IsSpent (lists : List Op → Type 0) : Type 0 where
   pub listed : lists ops
   pub spent : top_counter_of (ops_of (after_recording ops)) ≡ LAST_COUNTER
 
--- No correction was made in a store: it refused, or its site did, or over its operations none comes next, for this
--- reason.
+-- some of a store's operations could not be read
+pub record LacksSome (reads : List Unreadable → List Op → Type 0) : Type 0 where
+  pub told : List Unreadable
+  pub some : 0 < length told
+  pub ops : List Op
+  pub read : reads told ops
+
+-- No correction was made in a store: it refused, or its site did, or some of it can't be read, or over its operations
+-- none comes next, for this reason.
 abbrev pub IsUncorrected : (List Op → Type 0) → ℕ → Target → ℕ → List ℕ → ShelvedFault → Type 0
 IsUncorrected lists number target tag value (Shelf _) = ⊤
 IsUncorrected lists number target tag value (Site _) = ⊤
 IsUncorrected lists number target tag value (Hub fault) =
     (ops : List Op) × lists ops × (next_correction number (after_recording ops) target tag value ≡ Err fault)
-IsUncorrected lists number target tag value Hidden = ⊥
+IsUncorrected lists number target tag value Hidden = ⊤
 
 -- no correction was made at a site: its store refused, or none comes next there, for this reason
 abbrev pub IsUnmade : Map → ℕ → Target → ℕ → List ℕ → ShelvedFault → Type 0

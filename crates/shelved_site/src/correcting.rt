@@ -1,17 +1,17 @@
 //! Corrections of a site in a store.
 
-ghost use Rattle.std.specs.Prelude.{◌≡◌, Err, IfOk, IfErr, OnErr, false};
+ghost use Rattle.std.specs.Prelude.{◌≡◌, [], Err, IfOk, IfErr, OnErr, false};
 ghost use Rattle.site_hub.specs.Stamps.{may_be_made, LAST_COUNTER};
 ghost use Rattle.site_state.specs.Site.{ops_of, top_counter_of};
-ghost use Rattle.shelved_site.specs.declared.fault.ShelvedFault.TheVariants.{Hub};
+ghost use Rattle.shelved_site.specs.declared.fault.ShelvedFault.TheVariants.{Hidden, Hub};
 ghost use Rattle.shelved_site.specs.Readable.{Shown};
-ghost use Rattle.shelved_site.specs.Corrections.{IsCorrected, IsNext, IsSpent, IsUncorrected, IsUnmade};
+ghost use Rattle.shelved_site.specs.Corrections.{IsCorrected, IsNext, IsSpent, IsUncorrected};
+ghost use Rattle.shelved_site.specs.Corrections.{IsUnmade, LacksSome};
 
 use crate::Store;
 use crate::fault::ShelvedFault;
 use crate::known::is_known;
 use crate::taking::{Hearing, Sited, site_on};
-use crate::unreadable::Unreadable;
 use octets::Octets;
 use operation::{Op, Stamp, Target};
 use site_hub::{HubFault, next_correction};
@@ -57,8 +57,8 @@ pub fn correct_with<S: Store>(
     Ok(Corrected { stamp, is_known })
 }
 
-/// Corrects an attribute at the site of a number, whose operations stand in a store, and tells which
-/// of these can't be read: the site is without them.
+/// Corrects an attribute at the site of a number, whose operations stand in a store. Where some of
+/// these can't be read, none is made: one of them may be a correction, and its stamp be given again.
 pub fn correct_on<S: Store, H: Hearing>(
     alloc: Global,
     store: &mut S,
@@ -67,14 +67,16 @@ pub fn correct_on<S: Store, H: Hearing>(
     tag: u32,
     value: Octets,
     hearing: &H,
-) -> Result<(Corrected, Vec<Unreadable>), ShelvedFault>
-    ensures corrected { S.is_clean store.new → IfOk result (λ told. IsCorrected
-        (S.shows store.old told.1.items) (S.is_left store.new) number target tag value told.0) }
+) -> Result<Corrected, ShelvedFault>
+    ensures corrected { S.is_clean store.new → IfOk result (IsCorrected
+        (S.shows store.old []) (S.is_left store.new) number target tag value) }
     ensures refused { S.is_clean store.new → OnErr result (S.spares store.old store.new) }
     ensures clean { S.is_clean store.new → S.is_clean store.old }
 
     // Why none comes next, only where it is so. What may not be made is told so, unless memory
     // or the store is what refuses.
+    ensures hidden { S.is_clean store.new → result ≡ Err Hidden
+        → LacksSome (S.reads store.old store.new) }
     ensures unmade { S.is_clean store.new → IfErr result
         (IsUncorrected (Shown (S.shows store.old)) number target tag value) }
     ensures bad_correction { result ≡ Err (Hub HubFault.BadCorrection) →
@@ -83,8 +85,8 @@ pub fn correct_on<S: Store, H: Hearing>(
         → IsSpent (Shown (S.shows store.old)) }
 {
     let Sited { site, unreadable } = site_on(alloc, store, hearing)?;
-    match correct_with(store, &site, number, target, tag, value) {
-        Ok(corrected) => Ok((corrected, unreadable)),
-        Err(fault) => Err(fault),
+    if !unreadable.is_empty() {
+        return Err(ShelvedFault::Hidden);
     }
+    correct_with(store, &site, number, target, tag, value)
 }

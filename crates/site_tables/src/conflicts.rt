@@ -7,7 +7,7 @@ ghost use Rattle.archive_model.specs.Contents.{pick as pick_in};
 ghost use Rattle.site_state.specs.Site.{ops_of};
 ghost use Rattle.site_tables.specs.Conflicts.{digest_if, is_this as is_this_in, with_pick as with_pick_in};
 ghost use Rattle.site_tables.specs.Conflicts.{conflict_row as row_of, conflicts_in, conflicts_among, conflicts_of};
-ghost use Rattle.site_tables.specs.Conflicts.{conflicts as conflicts_all, conflict_rows as rows_in, instance_pair};
+ghost use Rattle.site_tables.specs.Conflicts.{conflicts as conflicts_all, instance_pair};
 ghost use Rattle.site_tables.specs.Under.{pair_of, pairs, has_under, own_pair, AreInOrder, Holds};
 
 use crate::cells::{hex_digits, word};
@@ -242,13 +242,4 @@ pub(crate) fn rows_of_conflicts(alloc: Global, found: &[Flagged]) -> Result<Vec<
         rows.push(row(alloc, flagged)?)?;
     }
     Ok(rows)
-}
-
-/// Of each flagged SOP Instance UID, ascending, its contents, ascending by digest: the UID, the
-/// digest, the bytes of the data set, the Study Instance UID, and whether it is the pick.
-pub fn conflict_rows(alloc: Global, site: &Site) -> Result<Vec<Row>, AllocError>
-    ensures { IfOk result (λ rows. rows.items ≡ rows_in (ops_of site.now)) }
-{
-    let found = take_conflicts(alloc, site)?;
-    rows_of_conflicts(alloc, &found)
 }

@@ -9,7 +9,7 @@ ghost use Rattle.archive_model.specs.Attributes.{corrections as corrections_in};
 ghost use Rattle.site_state.specs.Site.{ops_of};
 ghost use Rattle.site_tables.specs.Corrections.{kind_word, target_cmp, order_cmp, AreInOrder, counts as counts_in};
 ghost use Rattle.site_tables.specs.Corrections.{with_count as with_count_in, correction_row as row_of};
-ghost use Rattle.site_tables.specs.Corrections.{AreCorrections, AreCorrectionRows};
+ghost use Rattle.site_tables.specs.Corrections.{AreCorrections};
 
 use crate::cells::word;
 use crate::table::Row;
@@ -180,14 +180,4 @@ pub(crate) fn rows_of_corrections(alloc: Global, found: &[Stamped]) -> Result<Ve
         rows.push(row(alloc, stamped)?)?;
     }
     Ok(rows)
-}
-
-/// Each correction, ascending by target, tag and stamp: the kind and the key of the target, the
-/// tag, the value, counter and site of the stamp, and whether it counts, which the greatest of its
-/// target and tag does.
-pub fn correction_rows(alloc: Global, site: &Site) -> Result<Vec<Row>, AllocError>
-    ensures { IfOk result (λ rows. AreCorrectionRows (ops_of site.now) rows.items) }
-{
-    let found = take_corrections(alloc, site)?;
-    rows_of_corrections(alloc, &found)
 }

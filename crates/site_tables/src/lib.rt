@@ -21,12 +21,10 @@ mod taken;
 mod under;
 
 pub use aligned::align;
-pub use conflicts::conflict_rows;
-pub use corrections::correction_rows;
 pub use laws::the_rejected_are_what_is_covered;
-pub use rejected::{rejected_rows, rows_of_uids, take_notes};
+pub use rejected::{rows_of_uids, take_notes};
 pub use separated::separate;
-pub use studies::{TakenStudies, study_rows};
+pub use studies::TakenStudies;
 pub use study::TakenStudy;
 pub use table::{Row, Table, rows_of_table};
 pub use taken::TakenTable;

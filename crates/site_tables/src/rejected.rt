@@ -10,7 +10,7 @@ ghost use Rattle.site_tables.specs.Rejected.{note_of, notes_of, named_by, covere
 ghost use Rattle.site_tables.specs.Rejected.{is_naming as is_naming_in, naming as naming_in};
 ghost use Rattle.site_tables.specs.Rejected.{is_titled as is_titled_in, code_under, codes as codes_in};
 ghost use Rattle.site_tables.specs.Rejected.{rejected_row as row_of, rows_named as rows_in};
-ghost use Rattle.site_tables.specs.Rejected.{rejected_rows as rejected_rows_in, named_pairs, row_by};
+ghost use Rattle.site_tables.specs.Rejected.{named_pairs, row_by};
 ghost use Rattle.site_tables.specs.Under.{pairs, AreInOrder, Holds};
 
 use crate::copies::{copies_of, references};
@@ -339,13 +339,4 @@ pub(crate) fn rows_of_notes(
     let notes = references(alloc, taken)?;
     let uids = uids_named(alloc, &notes)?;
     rows_of_uids(alloc, taken, &uids)
-}
-
-/// Of each SOP Instance UID that a note names, ascending: the UID, the codes of the titles of the
-/// notes that name it, and the SOP Instance UIDs of these notes.
-pub fn rejected_rows(alloc: Global, site: &Site) -> Result<Vec<Row>, AllocError>
-    ensures { IfOk result (λ rows. rows.items ≡ rejected_rows_in (ops_of site.now)) }
-{
-    let notes = take_notes(alloc, site)?;
-    rows_of_notes(alloc, &notes)
 }

@@ -7,7 +7,7 @@ ghost use Rattle.archive_query.specs.Found.{rows_found as rows_found_in};
 ghost use Rattle.site_state.specs.Site.{ops_of};
 ghost use Rattle.site_tables.specs.Studies.{asked_of as asked_in, study_query as query_in, pick_of_short};
 ghost use Rattle.site_tables.specs.Studies.{rejected_picks as rejected_in, row_with, rows_taken};
-ghost use Rattle.site_tables.specs.Studies.{study_rows as rows_in, study_pair, row_by, value_or_none, AreTaken};
+ghost use Rattle.site_tables.specs.Studies.{study_pair, row_by, value_or_none, AreTaken};
 ghost use Rattle.site_tables.specs.Under.{pairs, held_under, AreInOrder, Holds};
 
 use crate::copies::{copies_of, references};
@@ -261,13 +261,4 @@ pub(crate) fn rows_of_studies(alloc: Global, taken: &TakenStudies) -> Result<Vec
     let answers = taken.answers(alloc, &query)?;
     let answers = answers.into_vec(alloc)?;
     taken.rows(alloc, TOLD.as_slice(), &answers)
-}
-
-/// Of each study that ARCHIVE shows, ascending, what a C-FIND answers there: the UID, Patient ID,
-/// name, date, how many series and instances; and how many instances of the study are rejected.
-pub fn study_rows(alloc: Global, site: &Site) -> Result<Vec<Row>, AllocError>
-    ensures { IfOk result (λ rows. rows.items ≡ rows_in (ops_of site.now)) }
-{
-    let taken = take_studies(alloc, site)?;
-    rows_of_studies(alloc, &taken)
 }

@@ -14,37 +14,12 @@ use records::RecordedContent;
 use std::alloc::{AllocError, Global};
 use std::cmp::Ordering;
 use std::marker::Model;
-use std::sync::Arc;
-
-/// A SOP Instance UID and a digest.
-#[derive(Drop)]
-pub struct CopyParts {
-    pub uid: ShortText,
-    pub digest: Digest,
-}
-
-impl Model for CopyParts {
-    ghost use Rattle.study_index.specs.Index.{Copy};
-
-    ghost Value = { Copy };
-
-    ghost view = { λ a. record { uid = a.uid; digest = a.digest } };
-}
-
-/// Where the parts of a copy stand.
-#[derive(Drop)]
-pub enum CopySource {
-    /// In a content, which is shared.
-    Stored(RecordedContent),
-    /// Apart, where it is asked whether they are those of a content.
-    Given(Arc<CopyParts, Global>),
-}
 
 /// A content: its SOP Instance UID and its digest, ordered by the one, then by the other.
 ///
 /// It shares the content, and keeps no text of its own.
 pub struct ContentCopy {
-    source: CopySource,
+    content: RecordedContent,
 }
 
 impl Model for ContentCopy {
@@ -54,13 +29,13 @@ impl Model for ContentCopy {
 
     ghost use Rattle.study_index.specs.CopyView.{copy_view};
 
-    ghost view = { λ a. copy_view a.source };
+    ghost view = { λ a. copy_view a.content };
 }
 
 // It is written out, so that a caller does not prove again how each part is dropped.
 impl Drop for ContentCopy {
     fn drop(self) {
-        let ContentCopy { source: _ } = self;
+        let ContentCopy { content: _ } = self;
     }
 }
 
@@ -71,20 +46,7 @@ impl ContentCopy {
             a_copy content.now.instance (digest_of (a_content content.now))) }
     {
         Ok(ContentCopy {
-            source: CopySource::Stored(content.copy()?),
-        })
-    }
-
-    /// A UID and a digest, as a copy.
-    pub fn given(alloc: Global, uid: &ShortText, digest: &Digest) -> Result<ContentCopy, AllocError>
-        ensures { IfOk result (λ copy. copy ≡ a_copy uid.now digest.now) }
-    {
-        let parts = CopyParts {
-            uid: uid.duplicate(),
-            digest: *digest,
-        };
-        Ok(ContentCopy {
-            source: CopySource::Given(Arc::new(alloc, parts)?),
+            content: content.copy()?,
         })
     }
 
@@ -93,20 +55,14 @@ impl ContentCopy {
         ensures value { result.now ≡ self.now.uid }
         ensures short { length result.now ≤ 64 }
     {
-        match &self.source {
-            CopySource::Stored(content) => content.instance(),
-            CopySource::Given(parts) => parts.uid.as_slice(),
-        }
+        self.content.instance()
     }
 
     /// The digest.
     pub fn digest(&self) -> &Digest
         ensures { result.now ≡ self.now.digest }
     {
-        match &self.source {
-            CopySource::Stored(content) => content.digest(),
-            CopySource::Given(parts) => &parts.digest,
-        }
+        self.content.digest()
     }
 }
 
@@ -154,11 +110,9 @@ impl Ord for ContentCopy {
 
 impl Copies for ContentCopy {
     fn copy(&self) -> Result<ContentCopy, AllocError> {
-        let source = match &self.source {
-            CopySource::Stored(content) => CopySource::Stored(content.copy()?),
-            CopySource::Given(parts) => CopySource::Given(Arc::try_clone(parts)?),
-        };
-        Ok(ContentCopy { source })
+        Ok(ContentCopy {
+            content: self.content.copy()?,
+        })
     }
 }
 

@@ -15,7 +15,7 @@ ghost use Rattle.study_index.specs.Keys.{has};
 ghost use Rattle.study_index.specs.Live.{pick_at, HasStudy, HasSeries, HasInstance, IsNext, picks_joined};
 ghost use Rattle.study_index.specs.Live.{is_of_study, is_of_series, tree_of, places_in_study};
 ghost use Rattle.study_index.specs.Index.{IsIndex, index_joined, index_of, nothing, fixes_joined, titles_of, a_naming};
-ghost use Rattle.study_index.specs.Index.{naming_cmp, a_copy, copy_cmp, fix_key, fix_at, short_fix_at, latest_at};
+ghost use Rattle.study_index.specs.Index.{naming_cmp, fix_key, fix_at, short_fix_at, latest_at};
 ghost use Rattle.study_index.specs.Index.{named, with_content};
 ghost use Rattle.study_index.specs.Leads.{lead_cmp, is_between, is_led, is_walked};
 ghost use Rattle.study_index.specs.Proved.Indexes.{index_laws, index_summary_laws};
@@ -34,7 +34,7 @@ use crate::walk::{count_led, given_by, put_led, stored_by};
 use archive_model::{patient, series, study, title_code};
 use join_laws::{Greatest, GrowSet, Join, MapOf, Summary};
 use octets::Octets;
-use operation::{Correction, Digest, Target};
+use operation::{Correction, Target};
 use records::{Parts, RecordedContent, RecordedOp};
 use rejection_note::{Note, NoteTitle};
 use std::alloc::{AllocError, Global};
@@ -293,15 +293,6 @@ impl Index {
         ensures { option_copied result ≡ pick_at uid.now self.now.picks }
     {
         self.live.pick(uid)
-    }
-
-    /// Whether a digest is that of a content of a SOP Instance UID.
-    pub fn is_copy(&self, uid: &ShortText, digest: &Digest) -> Result<bool, AllocError>
-        ensures { IfOk result (λ held. held ≡
-            has copy_cmp self.now.copies (a_copy uid.now digest.now)) }
-    {
-        let copy = ContentCopy::given(self.alloc, uid, digest)?;
-        Ok(self.copies.get().contains(&copy))
     }
 
     /// Whether a note of a title names a UID.
