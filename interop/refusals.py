@@ -285,8 +285,8 @@ def try_reports(refusals):
     told("report of a FILE that may not be written", same(plain, (
         0, "operations 2\ncontents 0\ncorrections 2\nseries 0\nend 0\n", "")))
     absent = refusals.new()
-    told("report of a FILE that is not there says so", same(refusals.said(["report", absent]), (
-        0, f"archive: {absent}: it is not there, and is told as one that has nothing\n")))
+    refusals.refused("report of a FILE that is not there", ["report", absent], 1,
+                     lines("fault shelf 1", absent, "it is not there"))
     told("reports make nothing", changes(before, below(refusals.folder)))
     with_log, alone = refusals.path("with a log"), refusals.path("without its log")
     refusals.run(["correct", with_log, "--site", "1", "patient", "P1", "00100010", "ROE^ANN"], NOBODY)

@@ -29,17 +29,11 @@ abbrev pub fingerprint_lines : Bool → List ℕ → List ℕ
 fingerprint_lines true fingerprint = fingerprint_line fingerprint
 fingerprint_lines false fingerprint = []
 
--- that the operations stand in a log, where they do
-abbrev pub store_lines : Bool → List ℕ
-store_lines true = line (codes "store log")
-store_lines false = []
-
--- that it is a log where it is one, the counts, the number of all that is held where it is asked for, the flagged UIDs,
--- and how many these are
-abbrev pub report_lines : Report → Bool → Bool → List ℕ
-report_lines report is_log is_fingerprinted =
-    store_lines is_log ++ (count_lines report ++ (fingerprint_lines is_fingerprinted report.fingerprint
-    ++ (flat_map flagged_line report.flagged ++ end_line (length report.flagged))))
+-- the counts, the number of all that is held where it is asked for, the flagged UIDs, and how many these are
+abbrev pub report_lines : Report → Bool → List ℕ
+report_lines report is_fingerprinted =
+    count_lines report ++ (fingerprint_lines is_fingerprinted report.fingerprint
+    ++ (flat_map flagged_line report.flagged ++ end_line (length report.flagged)))
 
 -- whether all came that was asked for
 abbrev pub finished_line : Bool → List ℕ

@@ -4,14 +4,14 @@ use Rattle.std.specs.Prelude.{nat_eq, slice_get, Option, Some, None}
 use Rattle.std.specs.Cmp.Lexicographic.{pointwise}
 use Rattle.std.specs.List.{ends_with}
 use Rattle.archive_app.specs.declared.output.notes.Note.{Note}
-use Rattle.archive_app.specs.declared.output.notes.Note.TheVariants.{Absent, Made, WithoutLog, ShownWithout, NoDate, NoTime}
+use Rattle.archive_app.specs.declared.output.notes.Note.TheVariants.{InLog, Made, WithoutLog, ShownWithout, NoDate, NoTime}
 use Rattle.archive_app.specs.declared.output.notes.Note.TheVariants.{DamagedRecords, NoRecords, NoHeads, OtherRecords}
 use Rattle.archive_app.specs.declared.output.notes.Note.TheVariants.{RenewedHeads, HiddenGroup, LostFrames, RestOfLog}
 use Rattle.archive_app.specs.declared.output.notes.Note.TheVariants.{UnknownStudy, UnknownPatient, UnknownSeries}
 
 -- each note in words
 abbrev pub words_of_note : Note → List ℕ
-words_of_note Absent = codes "it is not there, and is told as one that has nothing"
+words_of_note InLog = codes "its operations stand in a log"
 words_of_note Made = codes "it was not there, and is made"
 words_of_note WithoutLog =
     codes "its -wal is not beside it: without it what came last is missing, unless sqlite3 closed it"

@@ -124,9 +124,9 @@ fn with_part<'a>(refused: Refused<'a>, bad: Option<Part>) -> Refused<'a> {
 }
 
 /// Makes a correction, and says its stamp once the file has it. It warns of a value that no query
-/// matches, and of a target of which the site has nothing. Where a row of a file can't be read, none
-/// is made; of a folder, whose corrections stand in its heads, the site is without what can't be
-/// read, and then it ends with a fault.
+/// matches, and of a target of which the site has nothing. Where a row of a file can't be read,
+/// none is made; of a folder, whose corrections stand in its heads, the site is without what can't
+/// be read, and then it ends with a fault.
 pub fn correct<'a, T: Threads + Sync>(
     rt: &HostRuntime,
     threads: &T,

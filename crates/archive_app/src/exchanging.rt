@@ -1,6 +1,6 @@
 //! `archive exchange`: exchanges the operations in a file or a folder with another site.
 
-ghost use Rattle.std.specs.Prelude.{◌≡◌, if◌then◌else◌, IfErr};
+ghost use Rattle.std.specs.Prelude.{◌≡◌, if◌then◌else◌, Err, IfErr, IfSome, None, Ok, Some};
 ghost use Rattle.archive_app.specs.Causes.{is_own as is_own_in};
 
 use crate::file::{OnStore, on_shelf};
@@ -33,6 +33,18 @@ pub fn connect_to<'a, R: Net<Listener = TcpListener, Stream = TcpStream>>(
             let cause = reach_cause_of(error.kind());
             Err(Refused::net(address, fault, cause))
         }
+    }
+}
+
+/// The connection that is made already, or one more.
+fn wire_of<'a, R: Net<Listener = TcpListener, Stream = TcpStream>>(
+    net: &R,
+    exchanging: Exchanging<'a>,
+    made: Option<Wire>,
+) -> Result<Wire, Refused<'a>> {
+    match made {
+        Some(wire) => Ok(wire),
+        None => connect_to(net, exchanging.peer, exchanging.idle),
     }
 }
 
@@ -93,8 +105,37 @@ fn exchange_over<S: Store + Drop>(
     behind
 }
 
-/// What came of exchanges, and how many operations of this side can't be read.
-type Met = (Ended, u64);
+/// What came of exchanges, how many operations of this side can't be read, and why one that
+/// followed the first broke off.
+type Met<'a> = (Ended, u64, Option<Refused<'a>>);
+
+/// What came of exchanges of which one broke off: of the first nothing, and of a later one what
+/// those before it brought.
+fn met_before<'a>(
+    before: Option<Ended>,
+    unread: u64,
+    refused: Refused<'a>,
+) -> Result<Met<'a>, Refused<'a>>
+    ensures first { before ≡ None → result ≡ Err refused }
+    ensures later { IfSome before (λ all. result ≡ Ok (all, unread, Some refused)) }
+{
+    match before {
+        None => Err(refused),
+        Some(all) => Ok((all, unread, Some(refused))),
+    }
+}
+
+/// The fault behind exchanges of which a later one broke off: where this side refused it. A peer's
+/// failure is said, and those before it count.
+fn behind_others<'a>(rt: &HostRuntime, broke: Refused<'a>) -> Option<Refused<'a>> {
+    match broke.fault {
+        CommandFault::Exchange(fault) if is_own(fault) => Some(broke),
+        _ => {
+            broke.tell(rt);
+            None
+        }
+    }
+}
 
 /// The exchanges with the site at an address, the first over a connection if it is made already.
 #[derive(Drop)]
@@ -107,7 +148,7 @@ struct Meeting<'h, 'a, R: Net<Listener = TcpListener, Stream = TcpStream>> {
 
 impl<'h, 'a, R: Net<Listener = TcpListener, Stream = TcpStream>> Meeting<'h, 'a, R> {
     /// The exchanges of a site on its store.
-    fn meet<S: Store + Drop>(self, sited: Sited, mut store: S) -> Result<Met, Refused<'a>> {
+    fn meet<S: Store + Drop>(self, sited: Sited, mut store: S) -> Result<Met<'a>, Refused<'a>> {
         let Sited {
             mut site,
             unreadable,
@@ -120,33 +161,37 @@ impl<'h, 'a, R: Net<Listener = TcpListener, Stream = TcpStream>> Meeting<'h, 'a,
             connected,
         } = self;
         let mut made = connected;
-        let mut all = Ended::NONE;
+        let (mut all, mut before) = (Ended::NONE, None);
         for _ in 0..MOST_EXCHANGES {
-            let wire = match made.take() {
-                Some(wire) => wire,
-                None => connect_to(net, exchanging.peer, exchanging.idle)?,
+            let wire = match wire_of(net, exchanging, made.take()) {
+                Ok(wire) => wire,
+                Err(refused) => return met_before(before, unread, refused),
             };
             let Behind {
                 site: next,
                 shelf,
                 ended,
             } = exchange_over(rt, exchanging.role, &wire, site, store);
-            let last = told_of(exchanging, wire.is_silent(), ended)?;
+            let last = match told_of(exchanging, wire.is_silent(), ended) {
+                Ok(last) => last,
+                Err(refused) => return met_before(before, unread, refused),
+            };
             all = all.with_last(last);
             if !all.is_followed(last) {
-                return Ok((all, unread));
+                return Ok((all, unread, None));
             }
+            before = Some(all);
             site = next;
             store = shelf;
         }
-        Ok((all, unread))
+        Ok((all, unread, None))
     }
 }
 
 impl<'h, 'a, R: Net<Listener = TcpListener, Stream = TcpStream>> OnStore for Meeting<'h, 'a, R> {
-    type Told = Result<Met, Refused<'a>>;
+    type Told = Result<Met<'a>, Refused<'a>>;
 
-    fn on<S: Store + Drop + Send>(self, mut store: S) -> Result<Met, Refused<'a>> {
+    fn on<S: Store + Drop + Send>(self, mut store: S) -> Result<Met<'a>, Refused<'a>> {
         let starting = Starting::begins(self.rt, self.exchanging.file);
         let sited = site_on(self.rt.alloc(), &mut store, &starting);
         match about(self.exchanging.file, sited) {
@@ -161,7 +206,7 @@ fn meet_in_folder<'a, R: Net<Listener = TcpListener, Stream = TcpStream> + Threa
     rt: &HostRuntime,
     folder: &'a str,
     meeting: Meeting<'_, 'a, R>,
-) -> Result<Met, Refused<'a>> {
+) -> Result<Met<'a>, Refused<'a>> {
     let (sited, log) = site_in(rt, meeting.net, folder)?;
     meeting.meet(sited, log)
 }
@@ -170,6 +215,7 @@ fn meet_in_folder<'a, R: Net<Listener = TcpListener, Stream = TcpStream> + Threa
 /// not all fits into one exchange another follows, over a connection of its own, until both agree,
 /// one brings nothing or one is not finished, 257 at most. What was given and taken is then said of
 /// all of them, and what could not be read, whether it was finished and both agreed of the last.
+/// Where a later one breaks off for its peer, this is said, and what those before it did counts.
 ///
 /// What is taken is in the store before it counts as given, and stays there whatever comes after.
 /// Refusals come in this order: the store, the site, the connection, the exchange. Where the file
@@ -192,12 +238,19 @@ pub fn exchange<'a, R: Net<Listener = TcpListener, Stream = TcpStream> + Threads
         exchanging,
         connected,
     };
-    let (ended, unread) = if is_folder(rt, file) {
+    let (ended, unread, broke) = if is_folder(rt, file) {
         meet_in_folder(rt, file, meeting)?
     } else {
         on_shelf(rt, file, meeting)??
     };
     say_agreement(rt, ended);
-    let lines = about(file, lines_of_exchange(rt.alloc(), ended))?;
-    Ok(done_without(rt, file, lines, unread))
+    let text = about(file, lines_of_exchange(rt.alloc(), ended))?;
+    let Done { text, behind } = done_without(rt, file, text, unread);
+    match broke {
+        Some(broke) => Ok(Done {
+            text,
+            behind: behind_others(rt, broke).or(behind),
+        }),
+        None => Ok(Done { text, behind }),
+    }
 }

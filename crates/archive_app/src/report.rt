@@ -2,22 +2,16 @@
 
 use crate::file::OnStore;
 use crate::folder::{Starting, is_absent, is_folder, site_to_view};
-use crate::output::{CommandFault, Note, lines_of};
+use crate::output::{CommandFault, FileCause, Note, lines_of};
 use crate::refused::{Done, Refused, about, done_without, note};
 use crate::viewing::view_file;
 use command_words::Reporting;
-use shelved_site::{Report, ShelvedFault, Store, report_of, report_on, report_with, table_on};
-use site_state::Site;
+use op_shelf::{ShelfFault, StoreCause};
+use shelved_site::{Report, ShelvedFault, Store, report_on, report_with, table_on};
 use site_tables::{Row, Table, align, rows_of_table, separate};
 use std::alloc::{AllocError, Global};
 use std::rt::HostRuntime;
 use std::thread::Threads;
-
-/// The report of no operations.
-fn report_of_none(alloc: Global) -> Result<Report, CommandFault> {
-    let report = report_of(alloc, &Site::new(alloc), 0)?;
-    Ok(report)
-}
 
 /// What is told of an archive, and of how many of its operations it is told without.
 type Partly<T> = (T, u64);
@@ -71,16 +65,13 @@ fn counts<'a, T: Threads + Sync>(
     rt: &HostRuntime,
     threads: &T,
     file: &'a str,
-    is_absent: bool,
     is_fingerprinted: bool,
 ) -> Result<Partly<Vec<u8>>, Refused<'a>> {
-    let alloc = rt.alloc();
-    let (report, unread) = if is_absent {
-        (about(file, report_of_none(alloc))?, 0)
-    } else {
-        report_in(rt, threads, file)?
-    };
-    let lines = lines_of(alloc, &report, is_folder(rt, file), is_fingerprinted);
+    let (report, unread) = report_in(rt, threads, file)?;
+    if is_folder(rt, file) {
+        note(rt, file, Note::InLog);
+    }
+    let lines = lines_of(rt.alloc(), &report, is_fingerprinted);
     Ok((about(file, lines)?, unread))
 }
 
@@ -119,18 +110,13 @@ fn rows_in<'a, T: Threads + Sync>(
     rt: &HostRuntime,
     threads: &T,
     file: &'a str,
-    is_absent: bool,
     table: Table,
 ) -> Result<Partly<Vec<Row>>, Refused<'a>> {
-    let alloc = rt.alloc();
-    if is_absent {
-        return Ok((Vec::new(alloc), 0));
-    }
     if is_folder(rt, file) {
         return rows_in_folder(rt, threads, file, table);
     }
     let telling = Telling {
-        alloc,
+        alloc: rt.alloc(),
         table,
         starting: Starting::begins(rt, file),
     };
@@ -155,18 +141,17 @@ fn told<'a, T: Threads + Sync>(
     rt: &HostRuntime,
     threads: &T,
     file: &'a str,
-    is_absent: bool,
     table: Table,
     is_separated: bool,
 ) -> Result<Partly<Vec<u8>>, Refused<'a>> {
-    let (rows, unread) = rows_in(rt, threads, file, is_absent, table)?;
+    let (rows, unread) = rows_in(rt, threads, file, table)?;
     let text = text_of(rt.alloc(), table, rows.as_slice(), is_separated);
     Ok((about(file, text)?, unread))
 }
 
 /// The report of the operations in a file, of which nothing is changed, but that a table of older
-/// programs becomes that of today. One that is not there has none, which is said, and is not made.
-/// It is made without those that can't be read, and then ends with a fault.
+/// programs becomes that of today. One that is not there is refused, and is not made. It is made
+/// without those that can't be read, and then ends with a fault.
 pub fn report<'a, T: Threads + Sync>(
     rt: &HostRuntime,
     threads: &T,
@@ -178,13 +163,13 @@ pub fn report<'a, T: Threads + Sync>(
         separated,
         fingerprint,
     } = reporting;
-    let is_absent = is_absent(rt, file);
-    if is_absent {
-        note(rt, file, Note::Absent);
+    if is_absent(rt, file) {
+        let fault = CommandFault::Shelf(ShelfFault::Store(StoreCause::Other));
+        return Err(Refused::file(file, fault, FileCause::Absent));
     }
     let (text, unread) = match table {
-        None => counts(rt, threads, file, is_absent, fingerprint)?,
-        Some(table) => told(rt, threads, file, is_absent, table, separated)?,
+        None => counts(rt, threads, file, fingerprint)?,
+        Some(table) => told(rt, threads, file, table, separated)?,
     };
     Ok(done_without(rt, file, text, unread))
 }

@@ -205,8 +205,8 @@ fn has_both(rt: &HostRuntime, file: &str) -> bool {
 
 /// Does a command's work on the operations in a file or a folder, of which nothing is changed, but
 /// that a table of older programs becomes that of today. Where opening a file would make another,
-/// or lose what its log has, or there is no right to write it, the work is done on a copy in memory.
-/// A folder is opened as it stands.
+/// or lose what its log has, or there is no right to write it, the work is done on a copy in
+/// memory. A folder is opened as it stands.
 pub fn view_file<'a, W: OnStore + Drop>(
     rt: &HostRuntime,
     file: &'a str,

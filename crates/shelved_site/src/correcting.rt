@@ -58,7 +58,7 @@ pub fn correct_with<S: Store>(
 }
 
 /// Corrects an attribute at the site of a number, whose operations stand in a store. Where some of
-/// these can't be read, none is made: one of them may be a correction, and its stamp be given again.
+/// these can't be read, none is made: one may be a correction, whose stamp would be given again.
 pub fn correct_on<S: Store, H: Hearing>(
     alloc: Global,
     store: &mut S,

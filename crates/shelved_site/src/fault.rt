@@ -20,8 +20,8 @@ pub enum ShelvedFault {
     /// The hub made no correction.
     #[error("the hub refused")]
     Hub(HubFault),
-    /// An operation that can't be read may be a rejection note, and no hub was opened without it; or
-    /// a correction, and none was made without it.
+    /// What can't be read may be a rejection note, and no hub was opened without it; or a
+    /// correction, and none was made without it.
     #[error("what can't be read may be a rejection note, or a correction")]
     Hidden,
 }

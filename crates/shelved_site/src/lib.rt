@@ -30,7 +30,7 @@ pub use keeping::KeptLog;
 pub use laws::{records_tell_of_their_operations, the_same_puts_keep_the_same, what_lasts_is_left};
 pub use log_records::{hub_on_log, site_on_log};
 pub use moving::{Following, MoveFault, Moved, move_all};
-pub use reporting::{Report, report_of, report_on, report_with, table_on};
+pub use reporting::{Report, report_on, report_with, table_on};
 pub use store::Store;
 pub use taking::{Asked, Begun, Hearing, Sited, hub_on, site_of, site_on};
 pub use telling::fault as shelf_fault;

@@ -32,7 +32,7 @@ pub struct Report {
 }
 
 /// The report of a site whose store counts so many corrections of series.
-pub fn report_of(alloc: Global, site: &Site, series: u64) -> Result<Report, SiteFault>
+fn report_of(alloc: Global, site: &Site, series: u64) -> Result<Report, SiteFault>
     ensures report { IfOk result (λ report. report ≡ reported site.now series) }
 {
     Ok(Report {

@@ -6,7 +6,7 @@ ghost use Rattle.hex.specs.Hex.{encode_lower};
 ghost use Rattle.site_simulation.specs.Texts.{line, end_line, message_line, stamp_line};
 ghost use Rattle.archive_app.specs.Lines.{count_lines, exchange_lines, finished_line, flagged_line, move_lines};
 ghost use Rattle.archive_app.specs.Lines.{report_lines};
-ghost use Rattle.archive_app.specs.Lines.{fingerprint_line, fingerprint_lines, store_lines, unread_lines};
+ghost use Rattle.archive_app.specs.Lines.{fingerprint_line, fingerprint_lines, unread_lines};
 
 use exchange::Ended;
 use octets::{Octets, put_digits};
@@ -98,28 +98,16 @@ fn put_fingerprint_if(
     put_fingerprint(alloc, out, fingerprint)
 }
 
-fn put_store(out: &mut Vec<u8>, is_log: bool) -> Result<(), AllocError>
-    ensures { OnOk result (out.new.items ≡ out.old.items ++ store_lines is_log) }
-{
-    if !is_log {
-        return Ok(());
-    }
-    out.extend_from_slice(b"store log\n")
-}
-
-/// The lines of a report: that the operations stand in a log where they do, how many there are of
-/// each kind, the fingerprint where it is asked for, each flagged UID, and how many of these there
-/// are.
+/// The lines of a report: how many operations there are of each kind, the fingerprint where it is
+/// asked for, each flagged UID, and how many of these there are.
 pub fn lines_of(
     alloc: Global,
     report: &Report,
-    is_log: bool,
     is_fingerprinted: bool,
 ) -> Result<Vec<u8>, AllocError>
-    ensures { IfOk result (λ text. text.items ≡ report_lines report.now is_log is_fingerprinted) }
+    ensures { IfOk result (λ text. text.items ≡ report_lines report.now is_fingerprinted) }
 {
     let mut out = Vec::new(alloc);
-    put_store(&mut out, is_log)?;
     put_counts(alloc, &mut out, report)?;
     put_fingerprint_if(alloc, &mut out, is_fingerprinted, &report.fingerprint)?;
     put_all_flagged(&mut out, report.flagged.as_slice())?;

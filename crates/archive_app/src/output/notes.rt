@@ -7,8 +7,8 @@ ghost use Rattle.archive_app.specs.Notes.{lacks_log as lacks_log_in, names_folde
 /// What a command says beside its answer.
 #[derive(Clone, Copy, Debug, PartialEq, Eq)]
 pub enum Note {
-    /// A file is reported that is not there.
-    Absent,
+    /// What is reported stands in a folder.
+    InLog,
     /// A file or a folder is served that was not there.
     Made,
     /// The log is not beside a file that may have had one.
@@ -44,7 +44,7 @@ pub fn words_of_note(note: Note) -> &'static str
     ensures { result.now ≡ words_of_note note }
 {
     match note {
-        Note::Absent => "it is not there, and is told as one that has nothing",
+        Note::InLog => "its operations stand in a log",
         Note::Made => "it was not there, and is made",
         Note::WithoutLog =>
             "its -wal is not beside it: without it what came last is missing, unless sqlite3 closed it",
