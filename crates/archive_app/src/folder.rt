@@ -134,12 +134,17 @@ fn refusal_of<'a>(rt: &HostRuntime, folder: &'a str) -> Option<Refused<'a>> {
     if is_other_folder(rt, folder) {
         return Some(refused_for(folder, FileCause::Folder));
     }
+    if lacks_bodies(rt, folder) {
+        let fault = CommandFault::Shelf(shelf_fault(LogFault::DamagedHeads(0)));
+        return Some(Refused::file(folder, fault, FileCause::NoBodies));
+    }
     None
 }
 
 /// Opens the log in a folder, of which nothing is supposed. The folder is made where it is not
-/// there; one that has something else in it is refused before anything is made. What is of the
-/// older form is renewed, and that is said.
+/// there; one that has something else in it, or heads without data sets, is refused before anything
+/// is made. What is of the older form is renewed, and data sets that end too soon are lengthened,
+/// which is said.
 pub fn log_in<'a>(rt: &HostRuntime, folder: &'a str) -> Result<FolderLog, Refused<'a>> {
     if let Some(refused) = refusal_of(rt, folder) {
         return Err(refused);
@@ -153,6 +158,7 @@ pub fn log_in<'a>(rt: &HostRuntime, folder: &'a str) -> Result<FolderLog, Refuse
                 log,
                 is_renewed,
                 hid_a_group,
+                lacked_bodies,
             },
         ) => {
             if is_renewed {
@@ -160,6 +166,9 @@ pub fn log_in<'a>(rt: &HostRuntime, folder: &'a str) -> Result<FolderLog, Refuse
             }
             if hid_a_group {
                 note(rt, folder, Note::HiddenGroup);
+            }
+            if lacked_bodies {
+                note(rt, folder, Note::ShortBodies);
             }
             Ok(log)
         }
@@ -253,9 +262,6 @@ pub type FolderStore = KeptLog<FolderFile, FolderFile>;
 /// The log in a folder, of which nothing is changed. The two files without a byte that the database
 /// makes beside each of its files are made where they are not there.
 pub fn log_to_view<'a>(rt: &HostRuntime, folder: &'a str) -> Result<FolderStore, Refused<'a>> {
-    if lacks_bodies(rt, folder) {
-        return Err(refused_log(folder, LogFault::DamagedHeads(0)));
-    }
     Ok(KeptLog::of(rt.alloc(), log_in(rt, folder)?))
 }
 

@@ -12,7 +12,9 @@ ghost use Rattle.op_log.specs.Walking.{AreOfLog};
 ghost use Rattle.sqlite_std_file.specs.File.{file_is_usable, IsFresh};
 
 use crate::folder_fault::FolderFault;
+use crate::fault::LogFault;
 use crate::folder_refused::FolderRefused;
+use crate::lengthening::lengthened;
 use crate::log::OpLog;
 use crate::older_folder::renew_folder;
 use crate::refused::Refused;
@@ -32,11 +34,15 @@ pub type FolderLog = OpLog<FolderFile, FolderFile>;
 /// whole group may have stood behind the gate at which they ended, which does not count: it was
 /// being added when the archive was stopped, or its gate was changed. Then the older file is kept
 /// beside the new one, under its name with `.older` behind it.
+///
+/// And whether its data sets ended before its heads lead: then what lay behind that end can't be
+/// read until it is put again.
 #[derive(Drop)]
 pub struct OpenedFolder {
     pub log: FolderLog,
     pub is_renewed: bool,
     pub hid_a_group: bool,
+    pub lacked_bodies: bool,
 }
 
 /// Makes the folder if it is not there. Afterwards its name is on the disk.
@@ -142,21 +148,52 @@ pub fn log_in<H: Start, B: Start>(
     }
 }
 
+/// The log of files that were handed back since their heads lead behind the end of the data sets.
+fn open_lengthened(
+    rt: &HostRuntime,
+    files: (FolderFile, FolderFile),
+) -> Result<FolderLog, FolderFault>
+    ensures open { IfOk result (λ log. IsTrue log.is_open) }
+{
+    let (heads, bodies) = files;
+    let (heads, bodies) = lengthened(rt.alloc(), heads, bodies)?;
+    match OpLog::open(rt.alloc(), heads, bodies) {
+        Ok(log) => Ok(log),
+        Err(refused) => Err(FolderFault::Log(refused.fault)),
+    }
+}
+
+/// The log in a folder, and whether its data sets ended before its heads lead.
+fn open_files(rt: &HostRuntime, folder: &str) -> Result<(FolderLog, bool), FolderFault>
+    ensures open { IfOk result (λ opened. IsTrue opened.0.is_open) }
+{
+    let FolderRefused { fault, files } = match log_in(rt, folder, Wary, Wary) {
+        Ok(log) => return Ok((log, false)),
+        Err(refused) => refused,
+    };
+    match (fault, files) {
+        (FolderFault::Log(LogFault::DamagedHeads(_)), Some(files)) => {
+            Ok((open_lengthened(rt, files)?, true))
+        }
+        _ => Err(fault),
+    }
+}
+
 /// Opens the log in a folder, of which nothing is supposed. The folder and its files are made where
 /// they are not there, and those of the older form are renewed: where one of these is refused, it
-/// stays as it is. It is `Busy` while another program, or this one, has them open.
+/// stays as it is. Data sets that end before whole heads lead are lengthened to there. It is `Busy`
+/// while another program, or this one, has them open.
 pub fn open_folder(rt: &HostRuntime, folder: &str) -> Result<OpenedFolder, FolderFault>
     ensures open { IfOk result (λ opened. IsTrue opened.log.is_open) }
 {
     let older = renew_folder(rt, folder)?;
-    match log_in(rt, folder, Wary, Wary) {
-        Ok(log) => Ok(OpenedFolder {
-            log,
-            is_renewed: older.is_some(),
-            hid_a_group: matches!(older, Some((_, true))),
-        }),
-        Err(refused) => Err(refused.fault),
-    }
+    let (log, lacked_bodies) = open_files(rt, folder)?;
+    Ok(OpenedFolder {
+        log,
+        is_renewed: older.is_some(),
+        hid_a_group: matches!(older, Some((_, true))),
+        lacked_bodies,
+    })
 }
 
 /// The file of records in the folder of a log, which holds what is supposed of it. It is made where

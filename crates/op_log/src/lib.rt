@@ -20,6 +20,7 @@ mod folder_refused;
 mod group;
 mod head;
 mod kept;
+mod lengthening;
 mod laws;
 mod listing;
 mod loading;

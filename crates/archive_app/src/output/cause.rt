@@ -37,9 +37,10 @@ pub enum FileCause {
     OtherKind,
     OtherDatabase,
     Damaged,
-    /// At this byte of its heads they are none that are written, or lead to where `bodies` has no
-    /// byte.
+    /// At this byte of its heads they are none that are written.
     Heads(usize),
+    /// It has heads, and no file of the data sets that they lead to.
+    NoBodies,
     Journal,
     Full,
     /// The disk failed, for another cause than want of room.
@@ -154,8 +155,8 @@ fn words_of_file(cause: FileCause) -> &'static str
         FileCause::OtherKind => "it is no archive's file",
         FileCause::OtherDatabase => "it is another program's database",
         FileCause::Damaged => "it is damaged, or no archive's file",
-        FileCause::Heads(_) =>
-            "its file heads is damaged, or leads behind the end of bodies, at byte",
+        FileCause::Heads(_) => "its file heads is damaged, at byte",
+        FileCause::NoBodies => "its file bodies is not there",
         FileCause::Journal => "a rollback journal is beside it: open it with sqlite3 first",
         FileCause::Full => "the disk is full",
         FileCause::Failed => "the disk failed",

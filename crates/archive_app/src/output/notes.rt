@@ -22,7 +22,9 @@ pub enum Note {
     RenewedHeads,
     /// A whole group stood there behind the gate at which the others end.
     HiddenGroup,
-    /// They do not follow the log.
+    /// The data sets in a folder ended before what leads to them.
+    ShortBodies,
+    /// The records do not follow the log.
     OtherRecords,
     /// It is served although a rejection note may be among what can't be read.
     ShownWithout,
@@ -55,6 +57,8 @@ pub fn words_of_note(note: Note) -> &'static str
         Note::RenewedHeads => "its file heads was of an older form, and is renewed",
         Note::HiddenGroup =>
             "its older heads have a group behind their end, which does not count: see heads.older",
+        Note::ShortBodies =>
+            "its file bodies ended before its heads lead: what is lacking can't be read till it comes again",
         Note::OtherRecords =>
             "its file records does not follow its log: remove it, and the next start makes it anew",
         Note::ShownWithout =>
