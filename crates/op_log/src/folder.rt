@@ -11,8 +11,8 @@ ghost use Rattle.op_log.specs.Kept.{StandsFor};
 ghost use Rattle.op_log.specs.Walking.{AreOfLog};
 ghost use Rattle.sqlite_std_file.specs.File.{file_is_usable, IsFresh};
 
-use crate::folder_fault::FolderFault;
 use crate::fault::LogFault;
+use crate::folder_fault::FolderFault;
 use crate::folder_refused::FolderRefused;
 use crate::lengthening::lengthened;
 use crate::log::OpLog;
