@@ -1,8 +1,11 @@
 //! What follows from the definitions, for those who stand on them.
 
+ghost use Rattle.op_log.specs.Crashes.{LeavesAll, LeavesLog, LeavesOldOrAll};
 ghost use Rattle.op_log.specs.Kept.{LastCounts, SettledHaveOwn};
 ghost use Rattle.op_log.specs.Readable.{AllIsReadable, EachIsParted, ListedAreAmiss};
 ghost use Rattle.op_log.specs.Told.{OwnTellTrue, RecordsTellTrue, ToldStands};
+
+use sqlite_disk::Disk;
 
 /// Where each told content stands for that operation of a log that has its digest, if one has,
 /// what is recorded from them is what is recorded of the operations. The records of the log's own
@@ -28,4 +31,13 @@ pub fn what_is_whole_is_readable()
 pub fn the_last_head_of_a_digest_counts()
     ensures own { SettledHaveOwn }
     ensures last { LastCounts }
+{}
+
+/// What a crash leaves of the files of a log that is open, once it was opened or something was put.
+/// Where it is of a log, `OpLog::open` does not tell it as damaged (`damaged`), and has the heads of
+/// this one (`found`).
+pub fn what_a_crash_leaves_opens_again<H: Disk, B: Disk>()
+    ensures all { LeavesAll H.Disk B.Disk }
+    ensures log { LeavesLog H.Disk B.Disk }
+    ensures under_way { LeavesOldOrAll H.Disk B.Disk }
 {}
