@@ -3,22 +3,25 @@ use Rattle.std.proofs.Common.{◌≡◌, ◌+◌, ◌-◌, ◌<◌, ◌≤◌, �
 use Rattle.std.proofs.Common.{ap, subst, arith, IsTrue, ◌⊎◌, Contains, Some}
 use Rattle.std.specs.Int.{w32, to_be_bytes}
 use Rattle.std.proofs.lemmas.Bool.{cases_lt}
-use Rattle.std.proofs.lemmas.List.{length-append, length-take-le}
+use Rattle.std.proofs.lemmas.List.{length-append, length-drop, length-take-le}
 use Rattle.sqlite_disk.specs.Disk.{Holds}
 use Rattle.sqlite_disk.specs.declared.Disk.{Ghosts}
 use Rattle.data_set.specs.declared.syntax.Syntax.TheVariants.{Implicit}
+use Rattle.body_log.proofs.Holding.{lasting}
 use Rattle.body_log.specs.Lasts.{Spares}
 use Rattle.head_log.specs.Groups.{first_gate, joined}
 use Rattle.operation.specs.declared.op.Op.{Op}
 use Rattle.operation.specs.declared.op.Op.TheVariants.{Content as a_content}
-use Rattle.operation.specs.Spelling.{spelling}
-use Rattle.op_log.specs.Crashes.{AllLast, HaveAllOf, IsSettled, LeavesAll, LeavesLog, LeavesOldOrAll}
+use Rattle.head_log.proofs.Texts.{once}
+use Rattle.operation.specs.Spelling.{hash_of, spelling}
+use Rattle.op_log.specs.Crashes.{AllLast, HaveAllOf, IsSettled, LeavesAll, LeavesLog, LeavesOldOrAll, Settles}
 use Rattle.op_log.specs.Filling.{AreFit}
-use Rattle.op_log.specs.Heads.{Entry, Head, body_of, group_text}
+use Rattle.op_log.specs.Heads.{Entry, Head, body_of, group_text, head_of}
 use Rattle.op_log.specs.Kept.{HasBody, IsBelow, IsHeld, StandsFor, with_head}
 use Rattle.op_log.specs.Log.{Opened}
 use Rattle.op_log.proofs.Keeping.{stands}
 use Rattle.op_log.proofs.Lists.{body_is}
+use Rattle.op_log.proofs.Lookups.{among}
 use Rattle.op_log.proofs.TestedBodies.{own_bytes}
 use Rattle.op_log.proofs.Walks.{heads_once, laid_once, spelled_of}
 
@@ -51,12 +54,27 @@ module _ {B : Type 0} (g : Ghosts B) where
   in_left disk end last file may e held some = (last e held some).0.left file may
 
   -- and so it has after a call that spares it
-  in_later : (old new : B) (end : ℕ) → AllLast g old end → Spares g end old new → (file : List ℕ) → g.may_leave new file
-      → AllIn g old end file
-  in_later old new end last spared file may e held some =
+  in_later : (old new : B) (end past : ℕ) → end ≤ past → AllLast g old end → Spares g past old new → (file : List ℕ)
+      → g.may_leave new file → AllIn g old end file
+  in_later old new end past low last spared file may e held some =
       let (before, was, keeps) = spared.left file may in
       let it = last e held some in
-      keeps e.1 (body_of e.0) it.1 (it.0.left before was)
+      keeps e.1 (body_of e.0) (omega (arith, it.1, low)) (it.0.left before was)
+
+  -- What lasted goes on to last: what the file has below the offset it had before.
+  last_on : (old new : B) (end past : ℕ) → end ≤ past → end ≤ length (g.seen old) → AllLast g old end → Spares g past old new
+      → AllLast g new end
+  last_on old new end past low reach last spared e held some =
+      let body = body_of e.0 in
+      let (now, within) = held some in
+      let mine = take (length body) (drop e.1 (g.seen old)) in
+      let was : Holds (g.seen old) e.1 mine = own_bytes (g.seen old) e.1 (length body) (omega (arith, within, reach)) in
+      let many : length mine ≡ length body = length-take-le (length body) (drop e.1 (g.seen old)) (omega (arith, within, reach, length-drop e.1 (g.seen old))) in
+      let still = spared.kept e.1 mine (omega (arith, within, low, many)) was in
+      let same = once (g.seen new) e.1 mine body many still now in
+      let before = subst (λ (bytes : List ℕ). Holds (g.seen old) e.1 bytes) same was in
+      let it = last e (λ low. (before, within)) some in
+      (lasting g past old new spared e.1 body (omega (arith, within, low)) it.0, within)
 
   -- all bytes below the offset are the data set of some operation, so it reaches to there
   reaches : (disk : B) (end : ℕ) → end ≤ length (g.seen disk) → (file : List ℕ) → AllIn g disk end file → end ≤ length file
@@ -86,29 +104,35 @@ fit_longer a b low old (h ∷ heads) (first, rest) = (
 )
 
 module _ {H B : Type 0} (gh : Ghosts H) (gb : Ghosts B) where
+  reach_of : (log : Opened H B) (settled : IsSettled gh gb log) → settled.end ≤ length (gb.seen log.bodies)
+  reach_of log settled = omega (arith, settled.up_to, settled.sound.reach settled.bodies_clean)
+
   -- what has the heads and the data sets has all
-  have_all : (log : Opened H B) → IsSettled gh gb log → (heads bodies : List ℕ) → StandsFor heads log.places
-      → AllIn gb log.bodies log.bodies_end bodies → HaveAllOf gb log heads bodies
+  have_all : (log : Opened H B) (settled : IsSettled gh gb log) → (heads bodies : List ℕ) → StandsFor heads log.places
+      → AllIn gb log.bodies settled.end bodies → HaveAllOf gb log heads bodies
   have_all log settled heads bodies stands has =
-      let reach = reaches gb log.bodies log.bodies_end (settled.sound.reach settled.bodies_clean) bodies has in
+      let reach = reaches gb log.bodies settled.end (reach_of log settled) bodies has in
       record {
         stands = stands;
-        within = below_longer gb log.bodies_end (length bodies) reach log.places settled.sound.below;
-        ops = λ op (at, first, held). (at, first, has (op, at) held);
+        within = below_longer gb settled.end (length bodies) reach log.places settled.below;
+        ops = λ op (at, first, held).
+            let low = among (IsBelow settled.end) log.places (hash_of op) (head_of (op, at)) first settled.below in
+            (at, first, has (op, at) (λ some. ((held some).0, low)));
       }
 
   pub leaves_all : LeavesAll gh gb
   leaves_all log settled heads bodies left =
       let kept = settled.sound.kept settled.heads_clean settled.opens in
       have_all log settled heads bodies (stands gh log.heads log.heads_end log.places heads kept left.heads_left)
-      (in_left gb log.bodies log.bodies_end settled.lasting bodies left.bodies_left)
+      (in_left gb log.bodies settled.end settled.lasting bodies left.bodies_left)
 
   pub leaves_old_or_all : LeavesOldOrAll gh gb
   leaves_old_or_all old new ops settled on leaves heads bodies left =
       elim (leaves heads bodies left.heads_left left.bodies_left) [
         | inl before ↦
             inl (have_all old settled heads bodies before
-            (in_later gb old.bodies new.bodies old.bodies_end settled.lasting on.spared bodies left.bodies_left))
+            (in_later gb old.bodies new.bodies settled.end old.bodies_end settled.up_to settled.lasting on.spared bodies
+          left.bodies_left))
         | inr after ↦ inr after
       ]
 
@@ -117,11 +141,11 @@ module _ {H B : Type 0} (gh : Ghosts H) (gb : Ghosts B) where
   leaves_log may_stay log settled laid heads bodies left =
       let kept = settled.sound.kept settled.heads_clean settled.opens in
       let now = kept.ready (gh.seen log.heads) (may_stay log.heads) in
-      let end = log.bodies_end in
+      let end = settled.end in
       let texts = laid_once (gh.seen log.heads) first_gate log.heads_end (map group_text laid.groups) (map group_text kept.groups) laid.laid now.laid in
       let same = heads_once laid.groups kept.groups (spelled_of end [] (joined laid.groups) laid.fit) kept.spelled texts in
       let has = in_left gb log.bodies end settled.lasting bodies left.bodies_left in
-      let reach = reaches gb log.bodies end (settled.sound.reach settled.bodies_clean) bodies has in
+      let reach = reaches gb log.bodies end (reach_of log settled) bodies has in
       let fit = subst (λ (hs : List Head). AreFit end [] hs) same laid.fit in
       record {
         stands = record {
@@ -132,3 +156,37 @@ module _ {H B : Type 0} (gh : Ghosts H) (gb : Ghosts B) where
         };
         fit = fit_longer end (length bodies) reach [] (joined kept.groups) fit;
       }
+
+  pub settles : Settles gh gb
+  settles = record {
+    opened = λ log file sound opens heads_clean bodies_clean stays last. record {
+      sound = sound;
+      opens = opens;
+      heads_clean = heads_clean;
+      bodies_clean = bodies_clean;
+      end = log.bodies_end;
+      up_to = omega arith;
+      below = sound.below;
+      lasting = λ e held. last e (λ some. subst (λ (bytes : List ℕ). Holds bytes e.1 (body_of e.0)) stays.seen (held some).0);
+    };
+    put = λ log sound opens heads_clean bodies_clean last. record {
+      sound = sound;
+      opens = opens;
+      heads_clean = heads_clean;
+      bodies_clean = bodies_clean;
+      end = log.bodies_end;
+      up_to = omega arith;
+      below = sound.below;
+      lasting = last;
+    };
+    on = λ old new settled on opens heads_clean bodies_clean same. record {
+      sound = on.after;
+      opens = opens;
+      heads_clean = heads_clean;
+      bodies_clean = bodies_clean;
+      end = settled.end;
+      up_to = omega (arith, settled.up_to, on.longer);
+      below = subst (λ (hs : List Head). All (IsBelow settled.end) hs) (sym same) settled.below;
+      lasting = last_on gb old.bodies new.bodies settled.end old.bodies_end settled.up_to (reach_of old settled) settled.lasting on.spared;
+    };
+  }

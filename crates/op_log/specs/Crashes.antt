@@ -1,9 +1,11 @@
 -- What a crash leaves of the two files of a log.
-use Rattle.std.specs.Prelude.{◌⊎◌, ℕ, List, All, IsTrue, length}
+use Rattle.std.specs.Prelude.{◌≡◌, ◌≤◌, ◌⊎◌, ℕ, List, All, IsTrue, length}
 use Rattle.sqlite_disk.specs.declared.Disk.{Ghosts}
+use Rattle.body_log.specs.Lasts.{Stays}
+use Rattle.head_log.specs.Groups.{joined}
 use Rattle.operation.specs.declared.op.Op.{Op}
 use Rattle.op_log.specs.Heads.{Entry}
-use Rattle.op_log.specs.Kept.{AreOf, Has, IsBelow, IsHeld, IsLasting, StandsFor}
+use Rattle.op_log.specs.Kept.{AreOf, Has, HasBody, IsBelow, IsHeld, IsLasting, StandsFor}
 use Rattle.op_log.specs.Log.{GoesOn, IsSound, Opened}
 use Rattle.op_log.specs.Puts.{LeavesAllOf, LeavesAllOrNone}
 use Rattle.op_log.specs.Walking.{AreLaid, AreOfLog}
@@ -12,14 +14,17 @@ use Rattle.op_log.specs.Walking.{AreLaid, AreOfLog}
 abbrev pub AllLast : {B : Type 0} → Ghosts B → B → ℕ → Type 0
 AllLast g disk end = (e : Entry) → IsHeld g disk end e → IsLasting g disk end e
 
--- A log is open, its disks return what was written, and its data sets last, as they do once it was opened and after each
--- put.
+-- A log is open, and its disks return what was written. Its data sets lie below an offset, and what its file has there
+-- lasts, as it does once the log was opened and after each put.
 pub record IsSettled {H B : Type 0} (gh : Ghosts H) (gb : Ghosts B) (log : Opened H B) : Type 0 where
   pub sound : IsSound gh gb log
   pub opens : IsTrue log.is_open
   pub heads_clean : IsTrue (gh.is_clean log.heads)
   pub bodies_clean : IsTrue (gb.is_clean log.bodies)
-  pub lasting : AllLast gb log.bodies log.bodies_end
+  pub end : ℕ
+  pub up_to : end ≤ log.bodies_end
+  pub below : All (IsBelow end) log.places
+  pub lasting : AllLast gb log.bodies end
 
 -- One file stands for the heads of a log, in order. The other reaches to the end of the data set of each, and has those of
 -- the operations that the log has.
@@ -39,12 +44,29 @@ module _ {H B : Type 0} (gh : Ghosts H) (gb : Ghosts B) where
   LeavesAll =
       (log : Opened H B) → IsSettled gh gb log → (heads bodies : List ℕ) → AreLeft log heads bodies → HaveAllOf gb log heads bodies
 
+  -- A log whose data sets last is settled, as `OpLog::open` says it of all that was in the file, and so after a call of
+  -- which it comes back open with the same heads.
+  pub record Settles : Type 0 where
+    pub opened : (log : Opened H B) (file : B) → IsSound gh gb log → IsTrue log.is_open → IsTrue (gh.is_clean log.heads)
+        → IsTrue (gb.is_clean log.bodies) → Stays gb file log.bodies
+        → ((e : Entry) → HasBody (gb.seen file) e → IsLasting gb log.bodies log.bodies_end e) → IsSettled gh gb log
+    pub put : (log : Opened H B) → IsSound gh gb log → IsTrue log.is_open → IsTrue (gh.is_clean log.heads)
+        → IsTrue (gb.is_clean log.bodies) → AllLast gb log.bodies log.bodies_end → IsSettled gh gb log
+    pub on : (old new : Opened H B) → IsSettled gh gb old → GoesOn gh gb old new → IsTrue new.is_open
+        → IsTrue (gh.is_clean new.heads) → IsTrue (gb.is_clean new.bodies) → new.places ≡ old.places → IsSettled gh gb new
+
   -- Where the heads that lie in the file fit, also those that were put again, what a crash leaves is of a log, and has its
   -- heads.
   abbrev pub LeavesLog : Type 0
   LeavesLog =
-      (log : Opened H B) → IsSettled gh gb log → AreLaid (gh.seen log.heads) log.heads_end log.bodies_end log.places
+      (log : Opened H B) (settled : IsSettled gh gb log) → AreLaid (gh.seen log.heads) log.heads_end settled.end log.places
       → (heads bodies : List ℕ) → AreLeft log heads bodies → AreOfLog heads bodies log.places
+
+  -- They do where none was put again: the heads that are left are those of the log and no more.
+  abbrev pub LeavesLogOfOwn : Type 0
+  LeavesLogOfOwn =
+      (log : Opened H B) → IsSettled gh gb log → (heads bodies : List ℕ) → AreLeft log heads bodies
+      → (stands : StandsFor heads log.places) → joined stands.groups ≡ log.places → AreOfLog heads bodies log.places
 
   -- what a crash leaves of a put that is under way has all that the log had, or all that the put makes
   abbrev pub LeavesOldOrAll : Type 0

@@ -1,6 +1,6 @@
 //! What follows from the definitions, for those who stand on them.
 
-ghost use Rattle.op_log.specs.Crashes.{LeavesAll, LeavesLog, LeavesOldOrAll};
+ghost use Rattle.op_log.specs.Crashes.{LeavesAll, LeavesLog, LeavesOldOrAll, Settles};
 ghost use Rattle.op_log.specs.Kept.{LastCounts, SettledHaveOwn};
 ghost use Rattle.op_log.specs.Readable.{AllIsReadable, EachIsParted, ListedAreAmiss};
 ghost use Rattle.op_log.specs.Told.{OwnTellTrue, RecordsTellTrue, ToldStands};
@@ -37,6 +37,7 @@ pub fn the_last_head_of_a_digest_counts()
 /// Where it is of a log, `OpLog::open` does not tell it as damaged (`damaged`), and has the heads of
 /// this one (`found`).
 pub fn what_a_crash_leaves_opens_again<H: Disk, B: Disk>()
+    ensures settles { Settles H.Disk B.Disk }
     ensures all { LeavesAll H.Disk B.Disk }
     ensures log { LeavesLog H.Disk B.Disk }
     ensures under_way { LeavesOldOrAll H.Disk B.Disk }

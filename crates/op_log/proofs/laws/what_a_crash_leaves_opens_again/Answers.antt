@@ -1,5 +1,9 @@
-use Rattle.op_log.proofs.Crashing.{leaves_all, leaves_log, leaves_old_or_all}
+use Rattle.op_log.proofs.Crashing.{leaves_all, leaves_log, leaves_old_or_all, settles}
 use Rattle.op_log.proofs.laws.what_a_crash_leaves_opens_again.Goals as goal
+
+-- a call spares what lasts
+pub returns-clause-settles : goal.returns-clause-settles
+returns-clause-settles g c = settles g.H.Disk g.B.Disk
 
 -- what lasts is there, and the heads are kept
 pub returns-clause-all : goal.returns-clause-all
