@@ -1,6 +1,6 @@
 //! What follows from the definitions, for those who stand on them.
 
-ghost use Rattle.op_log.specs.Crashes.{LeavesAll, LeavesLog, LeavesOldOrAll, Settles};
+ghost use Rattle.op_log.specs.Crashes.{ComesToBeSettled, LeavesAll, LeavesLog, LeavesLogOfOwn, LeavesOldOrAll};
 ghost use Rattle.op_log.specs.Kept.{LastCounts, SettledHaveOwn};
 ghost use Rattle.op_log.specs.Readable.{AllIsReadable, EachIsParted, ListedAreAmiss};
 ghost use Rattle.op_log.specs.Told.{OwnTellTrue, RecordsTellTrue, ToldStands};
@@ -33,12 +33,13 @@ pub fn the_last_head_of_a_digest_counts()
     ensures last { LastCounts }
 {}
 
-/// What a crash leaves of the files of a log that is open, once it was opened or something was put.
-/// Where it is of a log, `OpLog::open` does not tell it as damaged (`damaged`), and has the heads of
-/// this one (`found`).
+/// What a crash leaves of the files of a log whose data sets last stands for its heads and has its
+/// data sets: if `OpLog::open` opens it, it has the very heads (`found` there). Where all heads of
+/// the file fit, it is of a log, and so is not told as damaged (`damaged` there).
 pub fn what_a_crash_leaves_opens_again<H: Disk, B: Disk>()
-    ensures settles { Settles H.Disk B.Disk }
+    ensures settled { ComesToBeSettled H.Disk B.Disk }
     ensures all { LeavesAll H.Disk B.Disk }
-    ensures log { LeavesLog H.Disk B.Disk }
+    ensures of_log { LeavesLog H.Disk B.Disk }
+    ensures own { LeavesLogOfOwn H.Disk B.Disk }
     ensures under_way { LeavesOldOrAll H.Disk B.Disk }
 {}
