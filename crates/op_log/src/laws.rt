@@ -34,9 +34,10 @@ pub fn the_last_head_of_a_digest_counts()
 {}
 
 /// What a crash leaves of the files of a log whose data sets last stands for its heads and has its
-/// data sets: if `OpLog::open` opens it, it has the very heads (`found` there). Where all heads of
-/// the file fit, it is of a log, and so is not told as damaged (`damaged` there).
-pub fn what_a_crash_leaves_opens_again<H: Disk, B: Disk>()
+/// data sets: where `OpLog::open` opens it, it has the very heads (`found` there). Where all heads
+/// of the file fit, it is of a log, and so is not told as damaged (`damaged` there). That a head fits
+/// in whose place another was put is a premise here: no clause of `OpLog` says it.
+pub fn what_a_crash_leaves_has_all<H: Disk, B: Disk>()
     ensures settled { ComesToBeSettled H.Disk B.Disk }
     ensures all { LeavesAll H.Disk B.Disk }
     ensures of_log { LeavesLog H.Disk B.Disk }

@@ -1,5 +1,5 @@
 use Rattle.op_log.proofs.Crashing.{comes_settled, leaves_all, leaves_log, leaves_log_of_own, leaves_old_or_all}
-use Rattle.op_log.proofs.laws.what_a_crash_leaves_opens_again.Goals as goal
+use Rattle.op_log.proofs.laws.what_a_crash_leaves_has_all.Goals as goal
 
 -- a call spares what lasts
 pub returns-clause-settled : goal.returns-clause-settled
