@@ -1,3 +1,4 @@
+pub mod Crashing
 pub mod Cutting
 pub mod Faults
 pub mod Fetches

@@ -1,3 +1,4 @@
+pub mod Crashes
 pub mod Fault
 pub mod Fetched
 pub mod Filling
