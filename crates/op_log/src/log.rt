@@ -19,7 +19,7 @@ ghost use Rattle.op_log.specs.Puts.{ComesToClash, LeavesAllOrNone, PutsAll};
 ghost use Rattle.op_log.specs.Recorded.{AreRecordedAs, Records};
 ghost use Rattle.op_log.specs.Records.{head_in};
 ghost use Rattle.op_log.specs.Verified.{damaged_in, digests_of, is_whole as is_whole_in};
-ghost use Rattle.op_log.specs.Walking.{AreOfLog};
+ghost use Rattle.op_log.specs.Walking.{AreLaid, AreOfLog};
 
 use crate::fault::LogFault;
 use crate::group::Group;
@@ -97,6 +97,8 @@ impl<H: Disk + Drop, B: Disk + Drop> OpLog<H, B> {
             → IsLasting B.Disk log.bodies log.bodies_end e) }
         ensures sound { IfOk result (IsSound H.Disk B.Disk) }
         ensures open { IfOk result (λ log. IsTrue log.is_open) }
+        ensures laid { IfOk result (λ log. IsTrue (H.Disk.is_clean log.heads)
+            → AreLaid (H.Disk.seen log.heads) log.heads_end log.bodies_end log.places) }
 
         // Whatever is answered, the files stand for what they stood for, after a crash too.
         ensures kept { IsTrue (H.Disk.is_clean (heads_in result))

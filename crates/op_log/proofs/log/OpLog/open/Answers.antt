@@ -1,4 +1,4 @@
-use Rattle.std.proofs.Common.{All, IsTrue, [], ℕ, Err, map, subst, sym, ap, ◌∙◌, arith}
+use Rattle.std.proofs.Common.{All, IsTrue, [], ℕ, List, Err, map, subst, sym, ap, ◌∙◌, arith}
 use Rattle.head_log.specs.declared.gate.Gate.{Gate}
 use Rattle.head_log.specs.Log.{disk_of as heads_of, gate_of as heads_end}
 use Rattle.head_log.specs.Groups.{joined}
@@ -6,6 +6,7 @@ use Rattle.head_log.proofs.Gates.{groups_not_cut}
 use Rattle.op_log.specs.Filling.{AreFit}
 use Rattle.op_log.specs.Heads.{body_of, group_text}
 use Rattle.op_log.specs.Kept.{IsBelow, IsKept, KeepsHeads}
+use Rattle.op_log.specs.Walking.{AreLaid}
 use Rattle.op_log.proofs.Faults.{damaged_is}
 use Rattle.op_log.proofs.Opening.{found_all, heads_kept, kept_through, laid_of, some_long, walked_kept, whole_of}
 use Rattle.op_log.proofs.log.OpLog.open.Goals as goal
@@ -133,3 +134,14 @@ returns-in-Err-walk-clause-memory g c told clean =
     let found = c.in-Ok.ensures.found (c.walk.ensures.same.disk.clean now) in
     some_long g.H.Disk c.args.heads (heads_of heads) (λ f. g.met.H.Disk.seen_may_stay f) (heads_end heads) found
     (c.in-Err-walk.ensures.memory (ap Err told))
+
+-- They lie in the file as it came back.
+pub returns-in-Ok-walk-clause-laid : goal.returns-in-Ok-walk-clause-laid
+returns-in-Ok-walk-clause-laid g c clean =
+    let heads = c.in-Ok.heads in
+    let same = c.walk.ensures.same in
+    let places = c.in-Ok-walk.places in
+    let laid = c.in-Ok-walk.ensures.laid clean (c.in-Ok.ensures.gates (same.disk.clean clean)) in
+    subst (λ (n : ℕ). AreLaid (g.H.Disk.seen (heads_of c.walk.new.heads)) (heads_end c.walk.new.heads) n places) c.end.ensures
+    (subst (λ (n : Gate). AreLaid (g.H.Disk.seen (heads_of c.walk.new.heads)) n c.end.result places) (sym same.same)
+    (subst (λ (f : List ℕ). AreLaid f (heads_end heads) c.end.result places) (sym same.disk.seen) laid))
