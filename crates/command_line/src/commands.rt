@@ -27,7 +27,7 @@ Counts the operations in FILE, and tells the SOP Instance UIDs of which it has
 two contents or more. With one of --conflicts, --rejected, --corrections and
 --studies it tells a table instead, aligned for reading, and with --tsv parted
 by tabs. FILE is only read, but that a table of older programs becomes that of
-today; one that is not there is told as one that has nothing.
+today; one that is not there is refused.
 
 With --at FILE is left out: the running site whose pages are at ADDR tells the
 table, as its text of UTF-8, or how many operations, contents and corrections it
