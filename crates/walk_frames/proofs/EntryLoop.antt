@@ -1,5 +1,5 @@
 -- Reading entries one after the other, as a loop does.
-use Rattle.std.proofs.Common.{◌≡◌, ℕ, suc, ◌-◌, ◌+◌, ◌≤◌, ◌<◌, List, [], ◌∷◌, ◌++◌, Result, Ok, Err, refl, sym, ap, ◌∙◌}
+use Rattle.std.proofs.Common.{◌≡◌, ℕ, suc, ◌-◌, ◌+◌, ◌≤◌, ◌<◌, List, [], ◌∷◌, ◌++◌, Ok, Err, refl, sym, ap, ◌∙◌}
 use Rattle.std.proofs.Common.{append_assoc, arith}
 use Rattle.std.proofs.lemmas.List.{append-nil}
 use Rattle.octets.specs.Gives.{◌>>=◌, Told}
@@ -26,7 +26,7 @@ unfolding entries_at
 goes_on front count i text n after total lt h so_far =
     let k : count - i ≡ suc (count - (i + 1)) = omega arith in
     let one : with_front front (entries_at (count - i) text)
-        ≡ with_front (front ++ n ∷ []) (entries_at (count - (i + 1)) after) =
+    ≡ with_front (front ++ n ∷ []) (entries_at (count - (i + 1)) after) =
     rw (k, h) (regroup front n (entries_at (count - (i + 1)) after))
     in
     sym one ∙ so_far

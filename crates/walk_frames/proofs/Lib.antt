@@ -1,4 +1,5 @@
 pub mod Lists
+pub mod Order
 pub mod Readings
 pub mod NodeLaws
 pub mod EntryLaws

@@ -1,14 +1,13 @@
 -- A node that is read is the node that was written, and what was written is read again.
-use Rattle.std.proofs.Common.{◌≡◌, ℕ, zero, suc, ◌+◌, ◌*◌, ◌/◌, ◌%◌, ◌<◌, ◌≤◌, Bool, true, false, cond, ltb, leb, eqb, List}
-use Rattle.std.proofs.Common.{[], ◌∷◌, ◌++◌, length, take, drop, get_or, Result, Ok, Err, refl, sym, ap, subst, ◌∙◌, arith}
+use Rattle.std.proofs.Common.{◌≡◌, ℕ, zero, suc, ◌+◌, ◌*◌, ◌/◌, ◌%◌, true, false, ltb, leb, eqb, List}
+use Rattle.std.proofs.Common.{[], ◌∷◌, ◌++◌, length, take, drop, get_or, Ok, Err, refl, sym, ap, subst, ◌∙◌, arith}
 use Rattle.std.specs.List.{list_all}
 use Rattle.std.proofs.lemmas.Bool.{and_parts, and_from, ltb-true, ltb-false, lt-ltb, le-ltb, leb-true, le-leb, eqb-true}
 use Rattle.std.proofs.lemmas.Bool.{eq-eqb as eqb_is}
-use Rattle.std.proofs.lemmas.List.{take_at, drop_at, take-append-drop, length-append, length-take, length-take-le}
-use Rattle.std.proofs.lemmas.List.{nil_from_length}
+use Rattle.std.proofs.lemmas.List.{take_at, drop_at, take-append-drop, length-append, length-take-le}
 use Rattle.std.proofs.lemmas.List.Concat.{flat_map-cons}
 use Rattle.octets.specs.Gives.{◌>>=◌}
-use Rattle.octets.proofs.ByteLaws.{bind_ok, guard_end, ok_is}
+use Rattle.octets.proofs.ByteLaws.{bind_ok, guard_end, done, ok_is}
 use Rattle.exchange_frames.specs.declared.fault.FrameFault.{FrameFault}
 use Rattle.exchange_frames.specs.declared.fault.FrameFault.TheVariants.{BadFrame}
 use Rattle.walk_frames.specs.Nodes.{is_digit, is_node, node_of, AreDigits, IsNode}
@@ -98,6 +97,11 @@ front_takes (b ∷ bs) (suc (suc n)) long none =
 
 -- ---- nodes
 
+-- the node that was read, and what is behind it
+read_is : (digits node behind : List ℕ) (x : List ℕ × List ℕ) → digits ≡ node
+    → done FrameFault (node, behind) ≡ done FrameFault x → (digits, behind) ≡ x
+read_is digits node behind x same e = ap (λ (t : List ℕ). (t, behind)) same ∙ ok_is FrameFault (node, behind) x e
+
 node_takes_rest : (depth : ℕ) (rest : List ℕ) (x : List ℕ × List ℕ) → node_at (depth ∷ rest) ≡ Ok x
     → (depth ∷ rest ≡ node_text x.0 ++ x.1) × IsNode x.0
 unfolding node_at digits_at node_of
@@ -119,8 +123,8 @@ node_takes_rest depth rest x e =
     ∙ ap (λ (m : ℕ). m ∷ (packed ds ++ drop h rest)) (sym f.1)
     in
     let lawful : IsNode ds = subst IsNode (sym d.1) (node_is b.0 n.0) in
-    let made : (ds, drop h rest) ≡ x = ap (λ (t : List ℕ). (t, drop h rest)) (d.1 ∙ n.1) ∙ ok_is FrameFault (c.0, drop h rest) x c.2 in
-    subst (λ (y : List ℕ × List ℕ). (depth ∷ rest ≡ node_text y.0 ++ y.1) × IsNode y.0) made (whole, lawful)
+    subst (λ (y : List ℕ × List ℕ). (depth ∷ rest ≡ node_text y.0 ++ y.1) × IsNode y.0)
+    (read_is ds c.0 (drop h rest) x (d.1 ∙ n.1) c.2) (whole, lawful)
 
 -- What is read of a node is spelled so, and is one.
 pub node_takes : (text : List ℕ) (x : List ℕ × List ℕ) → node_at text ≡ Ok x → (text ≡ node_text x.0 ++ x.1)

@@ -1,19 +1,19 @@
 -- A walk that is read is the walk that was written, and what was written is read again.
-use Rattle.std.proofs.Common.{◌≡◌, ℕ, zero, suc, ◌+◌, ◌*◌, ◌≤◌, ◌<◌, Bool, true, false, cond, ltb, eqb, List, [], ◌∷◌, ◌++◌}
-use Rattle.std.proofs.Common.{length, Option, Some, None, Result, Ok, Err, refl, sym, ap, subst, ◌∙◌, arith}
+use Rattle.std.proofs.Common.{◌≡◌, ℕ, ◌≤◌, ◌<◌, Bool, true, false, cond, ltb, eqb, List, [], ◌∷◌, ◌++◌}
+use Rattle.std.proofs.Common.{length, Result, Ok, Err, refl, sym, ap, subst, ◌∙◌, arith}
 use Rattle.std.specs.Prelude.{IfErr, IfOk}
 use Rattle.std.specs.Int.{w16, from_be_bytes, to_be_bytes}
-use Rattle.std.specs.List.{flat_map, AllByRecursion}
+use Rattle.std.specs.List.{flat_map}
 use Rattle.std.proofs.lemmas.Bool.{ltb-false, le-ltb, eqb-true}
 use Rattle.std.proofs.lemmas.List.{nil_from_length, append-nil}
 use Rattle.std.proofs.lemmas.Nat.{be_bytes_2, from_be_bytes-to_be_bytes_2}
 use Rattle.octets.specs.Bytes.{IsBytes}
-use Rattle.octets.specs.Gives.{◌>>=◌, Gives, Told}
+use Rattle.octets.specs.Gives.{Gives, Told}
 use Rattle.octets.proofs.ByteLaws.{IsBytes-two, bind_ok, guard_end, ok_is, told_map}
 use Rattle.exchange_frames.specs.declared.fault.FrameFault.{FrameFault}
 use Rattle.exchange_frames.specs.declared.fault.FrameFault.TheVariants.{BadFrame, TooLong, Memory}
 use Rattle.exchange_frames.specs.Fault.{is_memory}
-use Rattle.walk_frames.specs.Entries.{EntryParts, IsEntry}
+use Rattle.walk_frames.specs.Entries.{EntryParts}
 use Rattle.walk_frames.specs.Walks.{stand_apart, walk_of, IsWalk}
 use Rattle.walk_frames.specs.Spelling.{entry_text, walk_text}
 use Rattle.walk_frames.specs.Reading.{entries_at, walk_at, HasFault}
@@ -136,8 +136,8 @@ abbrev Answer : Type 0
 Answer = Result Walk FrameFault
 
 pub answered_so : (body : List ℕ) (answered : Answer) → IsBytes body → Gives is_memory (λ w. w) answered (walk_at body)
-    → IfOk answered (λ walk. body ≡ walk_text walk)
-answered_so body (Ok walk) fits gives = (walk_takes body walk fits gives).0
+    → IfOk answered (λ walk. (body ≡ walk_text walk) × IsWalk walk)
+answered_so body (Ok walk) fits gives = walk_takes body walk fits gives
 answered_so body (Err e) fits gives = tt
 
 pub faulted_so : (body : List ℕ) (answered : Answer) → Gives is_memory (λ w. w) answered (walk_at body)

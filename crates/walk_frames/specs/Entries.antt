@@ -1,5 +1,5 @@
 -- The entries of a WALK.
-use Rattle.std.specs.Prelude.{◌≡◌, ℕ, List, length, Option, Result, Ok, Err, Bool, IfSome, ◌==◌, if◌then◌else◌}
+use Rattle.std.specs.Prelude.{◌≡◌, ℕ, List, length, Option, Result, Ok, Err, IfSome, ◌==◌, if◌then◌else◌}
 use Rattle.exchange_frames.specs.Spelling.{AreDigests}
 use Rattle.exchange_frames.specs.declared.fault.FrameFault.{FrameFault}
 use Rattle.exchange_frames.specs.declared.fault.FrameFault.TheVariants.{BadFrame}

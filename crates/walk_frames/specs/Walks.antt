@@ -1,11 +1,13 @@
 -- Which entries are a walk.
-use Rattle.std.specs.Prelude.{ℕ, ◌≤◌, List, [], ◌∷◌, length, Bool, true, ◌&&◌, IsTrue, nat_lt, Result, Ok, Err}
+use Rattle.std.specs.Prelude.{◌≡◌, ◌≤◌, List, [], ◌∷◌, length, Bool, true, false, ◌&&◌, IsTrue, nat_lt, Result, Ok, Err}
 use Rattle.std.specs.Prelude.{if◌then◌else◌}
 use Rattle.std.specs.List.{AllByRecursion}
+use Rattle.std.specs.declared.cmp.Ordering.TheVariants.{Less}
+use Rattle.octets.specs.Texts.{text_cmp}
 use Rattle.exchange_frames.specs.declared.fault.FrameFault.{FrameFault}
 use Rattle.exchange_frames.specs.declared.fault.FrameFault.TheVariants.{BadFrame}
 use Rattle.walk_frames.specs.declared.walk.TheConstants.{MOST_ENTRIES}
-use Rattle.walk_frames.specs.Nodes.{is_before}
+use Rattle.walk_frames.specs.Nodes.{is_within, is_before}
 use Rattle.walk_frames.specs.Entries.{EntryParts, IsEntry}
 
 -- what is next passes the test
@@ -24,6 +26,12 @@ is_earlier entry later = is_before entry.node later.node
 -- the nodes ascend, and none lies within the one before it
 unfoldable pub stand_apart : List EntryParts → Bool
 stand_apart entries = all_pass is_earlier entries
+
+-- an entry's node is less than that of a later one, and neither lies within the other
+pub record AreApart (entry later : EntryParts) : Type 0 where
+  pub less : text_cmp entry.node later.node ≡ Less
+  pub within : is_within later.node entry.node ≡ false
+  pub around : is_within entry.node later.node ≡ false
 
 -- at most 4,096 entries, ascending, of which none lies within another
 pub record IsWalk (entries : List EntryParts) : Type 0 where

@@ -1,15 +1,21 @@
 //! Laws of walks, each said as the contract of a function.
 
 ghost use Rattle.std.specs.Prelude.{◌≡◌, ◌≤◌, List, length, Ok, None, ◌∷◌, []};
+ghost use Rattle.std.specs.List.{AllPairs};
 ghost use Rattle.walk_frames.specs.declared.walk.TheConstants.{LONGEST_WALK};
 ghost use Rattle.walk_frames.specs.Entries.{EntryParts};
-ghost use Rattle.walk_frames.specs.Walks.{IsWalk};
+ghost use Rattle.walk_frames.specs.Walks.{AreApart, IsWalk};
 ghost use Rattle.walk_frames.specs.Spelling.{walk_text};
 ghost use Rattle.walk_frames.specs.Reading.{walk_at};
 
 /// What is written of a walk is read again as that walk.
 pub fn what_is_written_is_read_again()
     ensures { (walk : List EntryParts) → IsWalk walk → walk_at (walk_text walk) ≡ Ok walk }
+{}
+
+/// None of a walk's entries lies within another.
+pub fn none_lies_within_another()
+    ensures { (walk : List EntryParts) → IsWalk walk → AllPairs AreApart walk }
 {}
 
 /// No walk's body is longer than the longest.

@@ -18,7 +18,10 @@ mod walk;
 mod writer;
 
 pub use entry::Entry;
-pub use laws::{a_walk_is_spelled_so, no_walk_is_longer, what_is_written_is_read_again};
+pub use laws::{
+    a_walk_is_spelled_so, no_walk_is_longer, none_lies_within_another,
+    what_is_written_is_read_again,
+};
 pub use node::{CHILDREN, MOST_DIGITS, Node};
 pub use numbers::{a_body_is_short_enough, limits_are_these};
 pub use reader::{a_text_spells_one_walk, read_walk};

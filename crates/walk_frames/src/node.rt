@@ -5,7 +5,6 @@ ghost use Rattle.std.specs.List.{list_all};
 ghost use Rattle.walk_frames.specs.Nodes.{is_digit as is_digit_of, is_node as is_node_of, node_of, is_before, IsNode};
 
 use exchange_frames::FrameFault;
-use octets::Octets;
 use std::alloc::{AllocError, Global};
 use std::cmp::Ordering;
 use std::marker::Model;
@@ -20,7 +19,7 @@ pub const CHILDREN: usize = 16;
 /// each below 16. The root has none. Contracts see the list of its digits.
 #[derive(Debug, Drop)]
 pub struct Node {
-    digits: Octets,
+    digits: Vec<u8>,
 }
 
 impl Model for Node {
@@ -29,9 +28,9 @@ impl Model for Node {
 
     ghost Value = { List ℕ };
 
-    ghost view = { λ n. n.digits };
+    ghost view = { λ n. n.digits.items };
 
-    ghost invariant = { λ n. IsNode n.digits };
+    ghost invariant = { λ n. IsNode n.digits.items };
 }
 
 fn is_digit(digit: u8) -> bool
@@ -56,12 +55,32 @@ impl Node {
     /// The node of these digits, which are kept as they are. More than 63, or one above 15, are
     /// `BadFrame`.
     #[tactic(auto, unfolding(crate::specs::Nodes::node_of))]
-    pub fn of(digits: Octets) -> Result<Node, FrameFault>
-        ensures { result ≡ node_of digits }
+    pub fn of(digits: Vec<u8>) -> Result<Node, FrameFault>
+        ensures { result ≡ node_of digits.items }
     {
         if !is_node(digits.as_slice()) {
             return Err(FrameFault::BadFrame);
         }
+        Ok(Node { digits })
+    }
+
+    /// The root, which has no digits. It takes no memory.
+    pub fn root(alloc: Global) -> Node
+        ensures { result ≡ [] }
+    {
+        Node {
+            digits: Vec::new(alloc),
+        }
+    }
+
+    /// The child that has one digit more.
+    pub fn child(&self, alloc: Global, digit: u8) -> Result<Node, AllocError>
+        requires shallow { length self.now < MOST_DIGITS }
+        requires digit { digit < CHILDREN }
+        ensures { IfOk result (λ child. child ≡ self.now ++ digit ∷ []) }
+    {
+        let mut digits = Vec::from_slice(alloc, self.digits())?;
+        digits.push(digit)?;
         Ok(Node { digits })
     }
 

@@ -15,7 +15,6 @@ use crate::node::Node;
 use crate::sums::{SUMS_LENGTH, Sums, digests_of};
 use crate::walk::Walk;
 use exchange_frames::FrameFault;
-use octets::Octets;
 use std::alloc::{AllocError, Global};
 
 /// The digits of some bytes, two of each.
@@ -41,15 +40,15 @@ fn digit_at(digits: &[u8], at: usize) -> u8
 }
 
 #[tactic(auto, unfolding(crate::specs::Reading::digits_at))]
-fn digits_of(alloc: Global, depth: usize, bytes: &[u8]) -> Result<Octets, FrameFault>
-    ensures { Gives is_memory (λ digits. digits) result (digits_at depth bytes.now) }
+fn digits_of(alloc: Global, depth: usize, bytes: &[u8]) -> Result<Vec<u8>, FrameFault>
+    ensures { Gives is_memory (λ digits. digits.items) result (digits_at depth bytes.now) }
 {
     let mut digits = unpacked(alloc, bytes)?;
     if digit_at(digits.as_slice(), depth) != 0 {
         return Err(FrameFault::BadFrame);
     }
     digits.truncate(depth);
-    Ok(Octets::of(digits))
+    Ok(digits)
 }
 
 #[tactic(auto, unfolding(crate::specs::Reading::node_at))]
@@ -128,9 +127,11 @@ fn walk_of(alloc: Global, body: &[u8]) -> Result<Walk, FrameFault>
 /// What is no walk's body is `BadFrame`, and no `TooLong` is told.
 pub fn read_walk(alloc: Global, body: &[u8]) -> Result<Walk, FrameFault>
     // What is read is spelled so, and what is spelled so is read, unless memory ran out.
-    ensures done { IfOk result (λ walk. body.now ≡ walk_text walk) }
+    ensures done { IfOk result (λ walk. (body.now ≡ walk_text walk) × IsWalk walk) }
     ensures only { (walk : List EntryParts) → IsWalk walk → body.now ≡ walk_text walk
         → Gives is_memory (λ walk. walk) result (Ok walk) }
+
+    ensures exact { Gives is_memory (λ walk. walk) result (walk_at body.now) }
 
     // Each fault, exactly where it is.
     ensures fault { IfErr result (λ e. Told is_memory e (HasFault body.now)) }

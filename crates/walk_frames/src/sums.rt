@@ -7,7 +7,6 @@ ghost use Rattle.walk_frames.specs.Entries.{sums_of, AreSums};
 
 use crate::node::CHILDREN;
 use exchange_frames::{DIGEST_LENGTH, FrameFault};
-use octets::ListOf;
 use operation::Digest;
 use std::alloc::{AllocError, Global};
 use std::marker::Model;
@@ -19,7 +18,7 @@ pub(crate) const SUMS_LENGTH: usize = 512;
 /// of each.
 #[derive(Debug, Drop)]
 pub struct Sums {
-    digests: ListOf<Digest>,
+    digests: Vec<Digest>,
 }
 
 impl Model for Sums {
@@ -28,9 +27,9 @@ impl Model for Sums {
 
     ghost Value = { List (List ℕ) };
 
-    ghost view = { λ s. s.digests };
+    ghost view = { λ s. s.digests.items };
 
-    ghost invariant = { λ s. AreSums s.digests };
+    ghost invariant = { λ s. AreSums s.digests.items };
 }
 
 /// Each of some digests has 32 bytes. Nothing is done: this is a fact for callers.
@@ -43,21 +42,21 @@ fn see_digests(digests: &[Digest])
 }
 
 /// The digests that stand in a text.
-pub(crate) fn digests_of(alloc: Global, text: &[u8]) -> Result<ListOf<Digest>, AllocError>
-    ensures { IfOk result (λ digests. digests ≡ digests_in text.now) }
+pub(crate) fn digests_of(alloc: Global, text: &[u8]) -> Result<Vec<Digest>, AllocError>
+    ensures { IfOk result (λ digests. digests.items ≡ digests_in text.now) }
 {
     let (arrays, _) = text.as_chunks::<DIGEST_LENGTH>();
     let mut digests = Vec::with_capacity(alloc, arrays.len())?;
     for bytes in arrays {
         digests.push(Digest::of(*bytes))?;
     }
-    Ok(ListOf::of(digests))
+    Ok(digests)
 }
 
 impl Sums {
     /// These sums, which are kept as they are. Another number than 16 is `BadFrame`.
-    pub fn of(digests: ListOf<Digest>) -> Result<Sums, FrameFault>
-        ensures { result ≡ sums_of digests }
+    pub fn of(digests: Vec<Digest>) -> Result<Sums, FrameFault>
+        ensures { result ≡ sums_of digests.items }
     {
         if digests.len() != CHILDREN {
             return Err(FrameFault::BadFrame);

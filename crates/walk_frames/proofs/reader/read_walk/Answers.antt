@@ -1,4 +1,4 @@
-use Rattle.std.proofs.Common.{Ok, Err, ap, subst, ◌∙◌, arith}
+use Rattle.std.proofs.Common.{ap, subst, ◌∙◌, arith}
 use Rattle.octets.specs.Bytes.{IsBytes}
 use Rattle.octets.specs.Gives.{Gives}
 use Rattle.exchange_frames.specs.Fault.{is_memory}

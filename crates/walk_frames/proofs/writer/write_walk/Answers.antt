@@ -13,8 +13,8 @@ unfolding walk_text
 returns-clause-short c =
     let entries = c.entries-entries.result.now in
     let text = c.of.ensures ∙ c.loop-entry.invariant
-        ∙ ap (λ (es : List EntryParts). to_be_bytes w16 (length entries) ++ flat_map entry_text es)
-        (take_all c.loop-entry.entry-index entries c.loop-entry-test.false)
-        ∙ ap walk_text c.entries-entries.ensures.value
+    ∙ ap (λ (es : List EntryParts). to_be_bytes w16 (length entries) ++ flat_map entry_text es)
+    (take_all c.loop-entry.entry-index entries c.loop-entry-test.false)
+    ∙ ap walk_text c.entries-entries.ensures.value
     in
     omega (arith, ap length text, walk_length c.args.walk.now c.entries-entries.ensures.lawful)
