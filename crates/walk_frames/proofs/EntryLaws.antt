@@ -81,7 +81,8 @@ entry_takes : (text : List ℕ) (x : EntryParts × List ℕ) → entry_at text �
     × IsEntry x.0
 unfolding entry_at entry_text
 entry_takes text x e =
-    let a = bind_ok (node_at text) (λ node. sums_at node.1 >>= λ sums. Ok (record { node = node.0; sums = sums.0 }, sums.1)) x e in
+    let a = bind_ok (node_at text) (λ node. sums_at node.1 >>= λ sums.
+    Ok (record { node = node.0; sums = sums.0 }, sums.1)) x e in
     let b = bind_ok (sums_at a.0.1) (λ sums. Ok (record { node = a.0.0; sums = sums.0 }, sums.1)) x a.2 in
     let node = node_takes text a.0 a.1 in
     let sums = sums_takes a.0.1 b.0 b.1 in
@@ -112,7 +113,8 @@ entries_takes zero text x e =
     subst (λ (y : List EntryParts × List ℕ). (text ≡ flat_map entry_text y.0 ++ y.1) × (length y.0 ≡ 0)
     × AllByRecursion IsEntry y.0) (ok_is FrameFault read x e) (refl, refl, tt)
 entries_takes (suc n) text x e =
-    let a = bind_ok (entry_at text) (λ first. entries_at n first.1 >>= λ others. Ok (first.0 ∷ others.0, others.1)) x e in
+    let a = bind_ok (entry_at text) (λ first. entries_at n first.1 >>= λ others.
+    Ok (first.0 ∷ others.0, others.1)) x e in
     let b = bind_ok (entries_at n a.0.1) (λ others. Ok (a.0.0 ∷ others.0, others.1)) x a.2 in
     let first = entry_takes text a.0 a.1 in
     let others = entries_takes n a.0.1 b.0 b.1 in

@@ -1,5 +1,5 @@
 -- A node that is read is the node that was written, and what was written is read again.
-use Rattle.std.proofs.Common.{◌≡◌, ℕ, zero, suc, ◌+◌, ◌*◌, ◌/◌, ◌%◌, true, false, ltb, leb, eqb, List}
+use Rattle.std.proofs.Common.{◌≡◌, ℕ, zero, suc, ◌+◌, ◌*◌, ◌/◌, ◌%◌, ◌≤◌, true, false, ltb, leb, eqb, List}
 use Rattle.std.proofs.Common.{[], ◌∷◌, ◌++◌, length, take, drop, get_or, Ok, Err, refl, sym, ap, subst, ◌∙◌, arith}
 use Rattle.std.specs.List.{list_all}
 use Rattle.std.proofs.lemmas.Bool.{and_parts, and_from, ltb-true, ltb-false, lt-ltb, le-ltb, leb-true, le-leb, eqb-true}
@@ -147,8 +147,10 @@ unfolding node_at
 node_again n rest is =
     let h = half (length n) in
     let len : length (packed n) ≡ h = packed_length n in
-    let long : ltb (length (packed n ++ rest)) h ≡ false = le-ltb _ _ (omega (arith, length-append (packed n) rest, len)) in
-    rw (long, take_at (packed n) rest h len, drop_at (packed n) rest h len, digits_again n is.digits, one_again n is) refl
+    let fits : h ≤ length (packed n ++ rest) = omega (arith, length-append (packed n) rest, len) in
+    let long : ltb (length (packed n ++ rest)) h ≡ false = le-ltb (length (packed n ++ rest)) h fits in
+    rw (long, take_at (packed n) rest h len, drop_at (packed n) rest h len, digits_again n is.digits, one_again n is)
+    refl
 
 -- ---- faults
 
@@ -158,15 +160,16 @@ node_of_bad ds = bad_cond (is_node ds) (Ok ds) (Err BadFrame) tt refl
 
 digits_bad : (depth : ℕ) (bytes : List ℕ) → OnlyBad (digits_at depth bytes)
 unfolding digits_at
-digits_bad depth bytes = bad_cond (eqb (get_or (unpacked bytes) depth 0) 0) (Ok (take depth (unpacked bytes))) (Err BadFrame) tt refl
+digits_bad depth bytes =
+    bad_cond (eqb (get_or (unpacked bytes) depth 0) 0) (Ok (take depth (unpacked bytes))) (Err BadFrame) tt refl
 
 pub node_bad : (text : List ℕ) → OnlyBad (node_at text)
 unfolding node_at
 node_bad [] = refl
 node_bad (depth ∷ rest) =
     let h = half depth in
-    bad_cond (ltb (length rest) h) (Err BadFrame) (digits_at depth (take h rest) >>= λ digits. node_of digits >>= λ node.
-    Ok (node, drop h rest)) refl
+    bad_cond (ltb (length rest) h) (Err BadFrame)
+    (digits_at depth (take h rest) >>= λ digits. node_of digits >>= λ node. Ok (node, drop h rest)) refl
     (bad_then (digits_at depth (take h rest)) (λ digits. node_of digits >>= λ node. Ok (node, drop h rest))
     (digits_bad depth (take h rest))
     (λ digits. bad_then (node_of digits) (λ node. Ok (node, drop h rest)) (node_of_bad digits) (λ node. tt)))

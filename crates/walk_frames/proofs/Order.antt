@@ -1,13 +1,14 @@
 -- Nodes of which each stands before the next: none lies within another.
-use Rattle.std.proofs.Common.{◌≡◌, ℕ, ◌<◌, ◌⊎◌, inl, inr, Bool, true, false, cond, not, ltb, eqb, List, [], ◌∷◌, length, take}
+use Rattle.std.proofs.Common.{◌≡◌, ℕ, ◌<◌, ◌⊎◌, inl, inr, Bool, true, false, cond, not, ltb, eqb, List}
+use Rattle.std.proofs.Common.{[], ◌∷◌, length, take}
 use Rattle.std.proofs.Common.{refl, sym, ◌∙◌, arith}
 use Rattle.std.specs.Ordering.{match_ordering}
 use Rattle.std.specs.declared.cmp.Ordering.{Ordering}
 use Rattle.std.specs.declared.cmp.Ordering.TheVariants.{Less, Equal, Greater}
 use Rattle.std.specs.Cmp.Lexicographic.{pointwise}
 use Rattle.std.specs.List.{AllByRecursion, AllPairs}
-use Rattle.std.proofs.lemmas.Bool.{ltb-true, eqb-true, lt-ltb, le-ltb, ne_eqb, cases_order, cases_Bool, and_parts, and_left}
-use Rattle.std.proofs.lemmas.Bool.{and_right, not-true}
+use Rattle.std.proofs.lemmas.Bool.{ltb-true, eqb-true, lt-ltb, le-ltb, ne_eqb, cases_order, cases_Bool, and_parts}
+use Rattle.std.proofs.lemmas.Bool.{and_left, and_right, not-true}
 use Rattle.std.proofs.lemmas.Bool.{eq-eqb as eqb_is}
 use Rattle.std.proofs.lemmas.List.Elements.{All-from_recursion}
 use Rattle.std.proofs.lemmas.List.Kept.{AllPairs-cons}
@@ -49,7 +50,8 @@ same_is (x ∷ xs) (y ∷ ys) = by_order (cases_order x y) (same_is xs ys)
 decided : (x y : ℕ) (rest : Bool) → first_digit x y rest ≡ true → (x < y) ⊎ ((x ≡ y) × (rest ≡ true))
 decided x y rest e = by_less (cases_Bool (ltb x y)) (cases_Bool (eqb x y))
   where
-    by_less : (ltb x y ≡ true) ⊎ (ltb x y ≡ false) → (eqb x y ≡ true) ⊎ (eqb x y ≡ false) → (x < y) ⊎ ((x ≡ y) × (rest ≡ true))
+    by_less : (ltb x y ≡ true) ⊎ (ltb x y ≡ false) → (eqb x y ≡ true) ⊎ (eqb x y ≡ false)
+        → (x < y) ⊎ ((x ≡ y) × (rest ≡ true))
     by_less (inl lt) s = inl (ltb-true x y lt)
     by_less (inr le) (inl s) = inr (eqb-true x y s, rw (le, s) at e)
     by_less (inr le) (inr s) = absurd (cc (rw (le, s) at e))

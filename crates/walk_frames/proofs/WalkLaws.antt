@@ -29,7 +29,8 @@ of_takes : (entries walk : Walk) → walk_of entries ≡ Ok walk → (length ent
     × (entries ≡ walk)
 unfolding walk_of
 of_takes entries walk e =
-    let a = guard_then (ltb 4096 (length entries)) BadFrame (cond (stand_apart entries) (Ok entries) (Err BadFrame)) walk e in
+    let a = guard_then (ltb 4096 (length entries)) BadFrame (cond (stand_apart entries) (Ok entries) (Err BadFrame))
+    walk e in
     let b = guard_end (stand_apart entries) BadFrame entries walk a.1 in
     (ltb-false 4096 (length entries) a.0, b.0, b.1)
 
@@ -44,7 +45,8 @@ walk_takes_rest : (a b : ℕ) (rest : List ℕ) (walk : Walk) → a < 256 → b 
 unfolding walk_at walk_text
 walk_takes_rest a b rest walk p q e =
     let n = from_be_bytes w16 (a ∷ b ∷ []) in
-    let f = bind_ok (entries_at n rest) (λ entries. cond (eqb (length entries.1) 0) (walk_of entries.0) (Err BadFrame)) walk e in
+    let f = bind_ok (entries_at n rest)
+    (λ entries. cond (eqb (length entries.1) 0) (walk_of entries.0) (Err BadFrame)) walk e in
     let entries = f.0.0 in
     let g = ended (eqb (length f.0.1) 0) (walk_of entries) walk f.2 in
     let made = of_takes entries walk g.1 in
@@ -62,7 +64,8 @@ walk_takes_rest a b rest walk p q e =
     let lawful : IsWalk entries = record { short = made.0; apart = made.1; lawful = parts.2 } in
     subst (λ (w : Walk). (a ∷ b ∷ rest ≡ walk_text w) × IsWalk w) made.2 (whole, lawful)
   where
-    ended : (t : Bool) (r : Result Walk FrameFault) (w : Walk) → cond t r (Err BadFrame) ≡ Ok w → (t ≡ true) × (r ≡ Ok w)
+    ended : (t : Bool) (r : Result Walk FrameFault) (w : Walk) → cond t r (Err BadFrame) ≡ Ok w
+        → (t ≡ true) × (r ≡ Ok w)
     ended true r w e = (refl, e)
     ended false r w e = absurd cc
 

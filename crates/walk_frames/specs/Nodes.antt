@@ -1,6 +1,6 @@
 -- Places in the tree of hexadecimal digits.
-use Rattle.std.specs.Prelude.{ℕ, ◌<◌, ◌≤◌, List, length, Bool, false, not, ◌&&◌, nat_eq, nat_lt, nat_le, Result, Ok, Err}
-use Rattle.std.specs.Prelude.{if◌then◌else◌}
+use Rattle.std.specs.Prelude.{ℕ, ◌<◌, ◌≤◌, List, length, Bool, false, not, ◌&&◌, nat_eq, nat_lt, nat_le, Result, Ok}
+use Rattle.std.specs.Prelude.{Err, if◌then◌else◌}
 use Rattle.std.specs.List.{list_all, starts_with, AllByRecursion}
 use Rattle.std.specs.Ordering.{match_ordering}
 use Rattle.octets.specs.Texts.{text_cmp}

@@ -24,9 +24,10 @@ halves byte = byte / 16 ∷ byte % 16 ∷ []
 abbrev pub unpacked : List ℕ → List ℕ
 unpacked bytes = flat_map halves bytes
 
--- so many digits, behind which there is none but 0
+-- so many digits of bytes that they fill; a digit behind them is 0
 unfoldable pub digits_at : ℕ → List ℕ → Result (List ℕ) FrameFault
-digits_at depth bytes = if slice_index (unpacked bytes) depth == 0 then Ok (take depth (unpacked bytes)) else Err BadFrame
+digits_at depth bytes =
+    if slice_index (unpacked bytes) depth == 0 then Ok (take depth (unpacked bytes)) else Err BadFrame
 
 -- how many bytes hold so many digits
 abbrev pub half : ℕ → ℕ
@@ -37,7 +38,8 @@ unfoldable pub node_at : List ℕ → Read (List ℕ)
 node_at [] = Err BadFrame
 node_at (depth ∷ rest) =
     if nat_lt (length rest) (half depth) then Err BadFrame
-    else digits_at depth (take (half depth) rest) >>= λ digits. node_of digits >>= λ node. Ok (node, drop (half depth) rest)
+    else digits_at depth (take (half depth) rest) >>= λ digits. node_of digits >>= λ node.
+    Ok (node, drop (half depth) rest)
 
 -- 00, or 01 and 16 sums
 unfoldable pub sums_at : List ℕ → Read (Option (List (List ℕ)))

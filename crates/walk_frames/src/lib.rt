@@ -2,8 +2,8 @@
 //! hold. Its body is read and written here.
 //!
 //! A node is a front of a digest, in hexadecimal digits; its sum is of the digests that begin so. A
-//! walk has an entry for each node at which the sums of two sites differ: a place, which is split no
-//! further, or a split, with the sums of the node's 16 children. The entries ascend strictly, and
+//! walk has an entry for each node at which the sums of two sites differ: a place, which is split
+//! no further, or a split, with the sums of the node's 16 children. The entries ascend strictly, and
 //! none lies within another. Bytes come in and values go out: nothing here reads a socket. What
 //! reads and what writes cite one spelling.
 #![tactic(auto)]
