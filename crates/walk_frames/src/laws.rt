@@ -31,8 +31,8 @@ pub fn a_walk_is_spelled_so()
         ≡ 0x00 ∷ 0x02 ∷ 0x03 ∷ 0xAB ∷ 0xC0 ∷ 0x00 ∷ 0x02 ∷ 0xAC ∷ 0x00 ∷ [] }
 {}
 
-/// Bodies that spell no walk: of a place with a last half byte, of one that lies within another, of
-/// two that descend, and of one with a byte behind it.
+/// Bodies that spell no walk: of a place whose last half byte is 1, of one that lies within another,
+/// of two that descend, and of one with a byte behind it.
 pub fn these_bodies_are_bad_frames()
     ensures half { walk_at (0x00 ∷ 0x01 ∷ 0x01 ∷ 0xA1 ∷ 0x00 ∷ []) ≡ Err BadFrame }
     ensures within { walk_at (0x00 ∷ 0x02 ∷ 0x01 ∷ 0xA0 ∷ 0x00 ∷ 0x02 ∷ 0xAB ∷ 0x00 ∷ [])

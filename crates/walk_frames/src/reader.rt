@@ -130,7 +130,6 @@ pub fn read_walk(alloc: Global, body: &[u8]) -> Result<Walk, FrameFault>
     ensures done { IfOk result (λ walk. (body.now ≡ walk_text walk) × IsWalk walk) }
     ensures only { (walk : List EntryParts) → IsWalk walk → body.now ≡ walk_text walk
         → Gives is_memory (λ walk. walk) result (Ok walk) }
-
     ensures exact { Gives is_memory (λ walk. walk) result (walk_at body.now) }
 
     // Each fault, exactly where it is.
