@@ -1,3 +1,4 @@
 pub mod Lists
 pub mod Beginnings
 pub mod Steps
+pub mod Orders

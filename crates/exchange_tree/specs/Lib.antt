@@ -1,3 +1,4 @@
 pub mod Nodes
 pub mod Sums
+pub mod Ranges
 pub mod Steps

@@ -10,6 +10,7 @@ mod comparing;
 mod laws;
 mod nodes;
 mod numbers;
+mod ranges;
 
 pub use comparing::differing;
 pub use laws::{
