@@ -2,3 +2,5 @@ pub mod Lists
 pub mod Beginnings
 pub mod Steps
 pub mod Orders
+pub mod Kept
+pub mod Places

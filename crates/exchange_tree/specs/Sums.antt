@@ -1,8 +1,10 @@
 -- The sums of nodes.
-use Rattle.std.specs.Prelude.{ℕ, ◌/◌, ◌%◌, nat_lt, List, [], ◌∷◌, ◌++◌, filter, map, length, Option, Some, None}
+use Rattle.std.specs.Prelude.{◌≡◌, ◌<◌, ◌≤◌, ◌+◌, true, ℕ, ◌/◌, ◌%◌, nat_lt, get_or, List, [], ◌∷◌, ◌++◌, filter, map, length, Option, Some, None}
 use Rattle.std.specs.Prelude.{if◌then◌else◌}
 use Rattle.std.specs.List.{flat_map, range_with_len}
+use Rattle.std.specs.List.Sorted.{IsStrictlySortedBy}
 use Rattle.sha2.specs.Sha256.{sha256}
+use Rattle.octets.specs.Texts.{text_cmp}
 use Rattle.exchange_frames.specs.Spelling.{digests_text}
 use Rattle.exchange_tree.specs.declared.nodes.TheConstants.{CHILD_COUNT, KEPT_DEPTH, PLACE_COUNT}
 use Rattle.exchange_tree.specs.Nodes.{digits_of, begins, beneath, child}
@@ -34,6 +36,17 @@ all_places = range_with_len 0 PLACE_COUNT
 unfoldable pub kept_list : List (List ℕ) → List (Option (List ℕ))
 kept_list digests = map (kept_of digests) all_places
 
+-- the digests of each other place are as they were
+abbrev pub SameElsewhere : ℕ → List (List ℕ) → List (List ℕ) → Type 0
+SameElsewhere place before after =
+    (other : ℕ) → other < PLACE_COUNT → (other ≡ place → ⊥)
+    → beneath (node_of other) before ≡ beneath (node_of other) after
+
+-- These are the kept sums of some digests, which ascend, each once.
+pub record AreKept (kept : List (Option (List ℕ))) (digests : List (List ℕ)) : Type 0 where
+  pub ascending : IsStrictlySortedBy text_cmp digests
+  pub sums : kept ≡ kept_list digests
+
 -- ---- what is hashed for a node
 
 -- a kept sum behind the two bytes of its place, and nothing where it is of nothing
@@ -41,9 +54,20 @@ abbrev pub told : ℕ → Option (List ℕ) → List ℕ
 told place None = []
 told place (Some sum) = place_text place ++ sum
 
+-- those of kept sums at these places
+abbrev pub told_text : List (Option (List ℕ)) → List ℕ → List ℕ
+told_text kept places = flat_map (λ place. told place (get_or kept place None)) places
+
 -- the places beneath a node, ascending
 abbrev pub places_beneath : List ℕ → List ℕ
 places_beneath node = filter (λ place. begins node (node_of place)) all_places
+
+-- The places beneath a node are so many, from the first on.
+pub record ArePlacesOf (node : List ℕ) (first count : ℕ) : Type 0 where
+  pub bound : first + count ≤ PLACE_COUNT
+  pub all : (place : ℕ) → first ≤ place → place < first + count → begins node (node_of place) ≡ true
+  pub only : (place : ℕ) → place < PLACE_COUNT → begins node (node_of place) ≡ true
+      → (first ≤ place) × (place < first + count)
 
 -- the kept sums beneath a node that are of something, each behind its two bytes
 abbrev pub upper_text : List (List ℕ) → List ℕ → List ℕ

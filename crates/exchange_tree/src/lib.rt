@@ -7,12 +7,15 @@
 #![tactic(auto)]
 
 mod comparing;
+mod kept_sums;
 mod laws;
 mod nodes;
 mod numbers;
 mod ranges;
+mod sums;
 
 pub use comparing::differing;
+pub use kept_sums::KeptSums;
 pub use laws::{
     a_digest_is_beneath_one_child, a_step_finds_what_one_lacks,
     equal_digests_meet_the_premise_of_nodes,
