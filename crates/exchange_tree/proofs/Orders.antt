@@ -26,7 +26,7 @@ cmp_same a = grind arith
 cmp_greater : (a b : ℕ) → b < a → nat_cmp a b ≡ Greater
 cmp_greater a b lt = grind arith
 
-three : (a b : ℕ) → (a < b) ⊎ ((a ≡ b) ⊎ (b < a))
+pub three : (a b : ℕ) → (a < b) ⊎ ((a ≡ b) ⊎ (b < a))
 three a b = by (nat_lt a b) (eqb a b) refl refl
   where
     by : (x y : Bool) → nat_lt a b ≡ x → eqb a b ≡ y → (a < b) ⊎ ((a ≡ b) ⊎ (b < a))

@@ -22,3 +22,4 @@ pub use laws::{
 };
 pub use nodes::{CHILD_COUNT, DEEPEST, KEPT_DEPTH, PLACE_COUNT};
 pub use numbers::limits_of_nodes_are_these;
+pub use sums::{children, sum};
