@@ -4,3 +4,5 @@ pub mod Steps
 pub mod Orders
 pub mod Kept
 pub mod Places
+pub mod Premises
+pub mod Takings

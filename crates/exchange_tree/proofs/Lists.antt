@@ -34,6 +34,17 @@ pub kept_has : {X : Type 0} (p : X → Bool) (xs : List X) (x : X) → Has (filt
 kept_has p [] x h = absurd h
 kept_has p (y ∷ ys) x h = first_kept x y ys (filter p ys) (p y) (kept_has p ys x) h
 
+first_passes : {X : Type 0} (p : X → Bool) (x y : X) (kept : List X) (b : Bool) → p y ≡ b → (Has kept x → p x ≡ true)
+    → Has (cond b (y ∷ kept) kept) x → p x ≡ true
+first_passes p x y kept true e rest (inl at) = ap p at ∙ e
+first_passes p x y kept true e rest (inr h) = rest h
+first_passes p x y kept false e rest h = rest h
+
+-- and passes
+pub kept_passes : {X : Type 0} (p : X → Bool) (xs : List X) (x : X) → Has (filter p xs) x → p x ≡ true
+kept_passes p [] x h = absurd h
+kept_passes p (y ∷ ys) x h = first_passes p x y (filter p ys) (p y) refl (kept_passes p ys x) h
+
 pub range_has : (n a p : ℕ) → a ≤ p → p < a + n → Has (range_with_len a n) p
 range_has zero a p low high = absurd (omega arith)
 range_has (suc n) a p low high = by (eqb p a) refl (range_has n (a + 1) p)

@@ -54,7 +54,7 @@ kept_range test (suc n) a lo count low high before within behind =
         ∙ ap (λ p. p ∷ range_with_len (a + 1) c) at ∙ ap (λ k. lo ∷ range_with_len k c) next
     by count (inr (inr gt)) high within behind rest = absurd (omega (arith, low, gt))
 
-not_so : (b : Bool) → (b ≡ true → ⊥) → b ≡ false
+pub not_so : (b : Bool) → (b ≡ true → ⊥) → b ≡ false
 not_so true never = absurd (never refl)
 not_so false never = refl
 
@@ -75,7 +75,7 @@ range_of_places node first count n e are =
 
 -- ---- which places those of a node are
 
-eqb_from : (a b : ℕ) → a ≡ b → eqb a b ≡ true
+pub eqb_from : (a b : ℕ) → a ≡ b → eqb a b ≡ true
 eqb_from a b e = grind arith
 
 small_one : (a : ℕ) (rest : Bool) → (nat_lt a 16 && rest) ≡ true → a < 16

@@ -2,6 +2,8 @@
 
 ghost use Rattle.exchange_tree.specs.Nodes.{ChildrenHaveAll};
 ghost use Rattle.exchange_tree.specs.Steps.{EqualDigestsTell, StepFinds};
+ghost use Rattle.exchange_tree.specs.Premise.{ToldHashesTell};
+ghost use Rattle.exchange_tree.specs.Taking.{TakenInPlace};
 
 /// The tree is complete: each digest beneath a node of fewer than 64 digits is beneath exactly one
 /// of its 16 children.
@@ -20,4 +22,15 @@ pub fn a_step_finds_what_one_lacks()
 /// however many they are.
 pub fn equal_digests_meet_the_premise_of_nodes()
     ensures { EqualDigestsTell }
+{}
+
+/// So do any two in order where SHA-256 tells the texts apart that were hashed for the step: those
+/// of each child, and above the places those of the places beneath.
+pub fn texts_that_are_told_apart_meet_the_premise_of_nodes()
+    ensures { ToldHashesTell }
+{}
+
+/// A digest that is taken changes the digests beneath its own place alone.
+pub fn a_digest_is_taken_in_its_place()
+    ensures { TakenInPlace }
 {}

@@ -17,9 +17,9 @@ mod sums;
 pub use comparing::differing;
 pub use kept_sums::KeptSums;
 pub use laws::{
-    a_digest_is_beneath_one_child, a_step_finds_what_one_lacks,
-    equal_digests_meet_the_premise_of_nodes,
+    a_digest_is_beneath_one_child, a_digest_is_taken_in_its_place, a_step_finds_what_one_lacks,
+    equal_digests_meet_the_premise_of_nodes, texts_that_are_told_apart_meet_the_premise_of_nodes,
 };
-pub use nodes::{CHILD_COUNT, DEEPEST, KEPT_DEPTH, PLACE_COUNT};
+pub use nodes::{CHILD_COUNT, DEEPEST, KEPT_DEPTH, PLACE_COUNT, place_of_digest};
 pub use numbers::limits_of_nodes_are_these;
 pub use sums::{children, sum};

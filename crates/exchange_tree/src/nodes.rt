@@ -1,4 +1,9 @@
-//! Nodes, and what lies beneath them.
+//! Nodes and places.
+
+ghost use Rattle.std.specs.Prelude.{◌≡◌};
+ghost use Rattle.exchange_tree.specs.Taking.{place_of};
+
+use operation::Digest;
 
 /// How many children a node has, one for each hexadecimal digit.
 pub const CHILD_COUNT: usize = 16;
@@ -11,3 +16,11 @@ pub const KEPT_DEPTH: usize = 4;
 
 /// How many places there are, one for each two bytes with which a digest can begin.
 pub const PLACE_COUNT: usize = 65_536;
+
+/// The place of a digest: its first two bytes, as one number, the first byte high.
+pub fn place_of_digest(digest: &Digest) -> u16
+    ensures { result ≡ place_of digest.now }
+{
+    let bytes = digest.as_bytes();
+    bytes[0] as u16 * 256 + bytes[1] as u16
+}
