@@ -1,10 +1,10 @@
 -- What lies beneath nodes and their children.
-use Rattle.std.proofs.Common.{◌≡◌, ℕ, zero, suc, ◌+◌, ◌*◌, ◌<◌, List, [], ◌∷◌, ◌++◌, Bool, true, false, eqb, length}
-use Rattle.std.proofs.Common.{get_or, refl, sym, ap, subst, ◌∙◌, arith}
+use Rattle.std.proofs.Common.{◌≡◌, ℕ, zero, suc, ◌*◌, ◌<◌, List, [], ◌∷◌, ◌++◌, Bool, true, false, eqb, length}
+use Rattle.std.proofs.Common.{get_or, refl, sym, ◌∙◌, arith}
 use Rattle.std.proofs.lemmas.Bool.{false≢true, eqb-true}
-use Rattle.std.specs.Prelude.{◌&&◌, ◌/◌, ◌%◌}
+use Rattle.std.specs.Prelude.{◌&&◌}
 use Rattle.octets.specs.Bytes.{IsBytes}
-use Rattle.exchange_tree.specs.Nodes.{digits_of, begins, child, IsDigest, ChildrenHaveAll}
+use Rattle.exchange_tree.specs.Nodes.{digits_of, begins, child, ChildrenHaveAll}
 
 -- ---- digits
 

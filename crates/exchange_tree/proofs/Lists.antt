@@ -1,7 +1,8 @@
 -- What is kept of lists.
 use Rattle.std.proofs.Common.{inl, inr, ◌≡◌, ℕ, zero, suc, ◌+◌, ◌<◌, ◌≤◌, List, [], ◌∷◌, ◌++◌, Bool, true, false, cond}
-use Rattle.std.proofs.Common.{eqb, get_or, refl, sym, ap, subst, ◌∙◌, arith}
-use Rattle.std.specs.Prelude.{◌⊎◌, map, filter, not}
+use Rattle.std.proofs.Common.{eqb, refl, sym, ap, ◌∙◌, arith}
+use Rattle.std.proofs.lemmas.List.FromFn.{map-range_with_len_more}
+use Rattle.std.specs.Prelude.{map, filter}
 use Rattle.std.specs.List.{range_with_len}
 use Rattle.octets.specs.Members.{Has}
 
@@ -76,3 +77,10 @@ pub kept_next : (test : ℕ → Bool) (n : ℕ) → filter test (range_with_len 
     ++ cond (test n) (n ∷ []) []
 kept_next test n = let e : 0 + n ≡ n = omega arith in
     kept_from test 0 n ∙ ap (λ p. filter test (range_with_len 0 n) ++ cond (test p) (p ∷ []) []) e
+
+-- what was told of the numbers below one, and what is told of that one
+pub more_told : {X : Type 0} (f : ℕ → X) (n : ℕ) (before after : List X) (x : X) → before ≡ map f (range_with_len 0 n)
+    → after ≡ before ++ x ∷ [] → x ≡ f n → after ≡ map f (range_with_len 0 (n + 1))
+more_told f n before after x was more is =
+    more ∙ ap (λ xs. xs ++ x ∷ []) was ∙ ap (λ y. map f (range_with_len 0 n) ++ y ∷ []) is
+    ∙ sym (map-range_with_len_more f 0 n n (omega arith))

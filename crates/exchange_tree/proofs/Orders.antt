@@ -1,15 +1,13 @@
 -- The order of digests, of their digits, and of nodes.
-use Rattle.std.proofs.Common.{inl, inr, ◌≡◌, ℕ, zero, suc, ◌+◌, ◌*◌, ◌<◌, ◌≤◌, List, [], ◌∷◌, ◌++◌, Bool, true, false}
-use Rattle.std.proofs.Common.{cond, eqb, length, get_or, drop, take, refl, sym, ap, subst, ◌∙◌, arith}
+use Rattle.std.proofs.Common.{inl, inr, ◌≡◌, ℕ, zero, suc, ◌+◌, ◌<◌, ◌≤◌, List, [], ◌∷◌, Bool, true, false}
+use Rattle.std.proofs.Common.{cond, eqb, length, get_or, drop, take, refl, sym, ap, ◌∙◌, arith}
 use Rattle.std.proofs.lemmas.Bool.{false≢true, eqb-true}
 use Rattle.std.specs.Prelude.{◌⊎◌, ◌&&◌, ◌/◌, ◌%◌, ◌==◌, nat_lt, not, filter, if◌then◌else◌}
-use Rattle.std.specs.Cmp.Lexicographic.{slice_cmp}
-use Rattle.std.specs.List.{AllByRecursion}
 use Rattle.std.specs.List.Sorted.{IsStrictlySortedBy, IsPartitionedBy, IsPartitionPoint}
 use Rattle.std.specs.Ordering.{nat_cmp, ordering_then, ordering_index, is_eq, is_lt, is_gt}
 use Rattle.std.specs.declared.cmp.Ordering.{Ordering}
 use Rattle.std.specs.declared.cmp.Ordering.TheVariants.{Less, Equal, Greater}
-use Rattle.std.proofs.lemmas.List.{length-drop}
+use Rattle.std.proofs.lemmas.List.{length-drop, get_or-drop}
 use Rattle.std.proofs.lemmas.Map.Keys.{Less-from_sorted}
 use Rattle.octets.specs.Texts.{text_cmp}
 use Rattle.exchange_tree.specs.Nodes.{digits_of, begins, is_beneath, beneath}
@@ -250,12 +248,6 @@ front_kept p (suc n) (d ∷ ds) le passes fails =
     ∙ ap (λ ks. d ∷ ks) (front_kept p n ds (omega (arith, le)) (λ k e lt. passes (suc k) e (omega (arith, lt)))
     (λ k e low lt. fails (suc k) e (omega (arith, low)) (omega (arith, lt))))
 
-at_behind : (n k : ℕ) (xs : List (List ℕ)) (d : List ℕ) → get_or (drop n xs) k d ≡ get_or xs (n + k) d
-at_behind zero k xs d = let e : k ≡ 0 + k = omega arith in ap (λ i. get_or xs i d) e
-at_behind (suc n) k [] d = refl
-at_behind (suc n) k (x ∷ xs) d =
-    let e : suc (n + k) ≡ suc n + k = omega arith in at_behind n k xs d ∙ ap (λ i. get_or (x ∷ xs) i d) e
-
 -- what lies beneath a node begins behind what comes before it, and ends before what comes behind it
 pub range_is : (node : List ℕ) (ds behind : List (List ℕ)) (s n : ℕ) → s ≤ length ds → behind ≡ drop s ds
     → IsPartitionPoint (λ d. is_before node d ≡ true) (λ d. is_before node d ≡ false) ds s → n ≤ length behind
@@ -273,7 +265,7 @@ range_is node ds behind s n within is first fits last =
     later : (k : ℕ) (d : List ℕ) → k < length behind → is_before node (get_or behind k d) ≡ false
     later k d lt =
         let long : length behind ≡ length (drop s ds) = ap length is in
-        ap (λ xs. is_before node (get_or xs k d)) is ∙ ap (is_before node) (at_behind s k ds d)
+        ap (λ xs. is_before node (get_or xs k d)) is ∙ ap (is_before node) (get_or-drop s ds k d)
         ∙ first.1 (s + k) d (omega arith) (omega (arith, lt, long, length-drop s ds))
 
 -- ---- the digit at a place

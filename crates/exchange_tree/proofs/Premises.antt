@@ -5,7 +5,7 @@ use Rattle.std.proofs.Common.{length-append}
 use Rattle.std.proofs.lemmas.Bool.{false≢true, eqb-true}
 use Rattle.std.proofs.lemmas.List.{take_at, drop_at}
 use Rattle.std.proofs.lemmas.List.Kept.{IsStrictlySortedBy-filter}
-use Rattle.std.specs.Prelude.{◌⊎◌, ◌&&◌, ◌/◌, ◌%◌, filter, nat_lt}
+use Rattle.std.specs.Prelude.{◌/◌, ◌%◌, nat_lt}
 use Rattle.std.specs.Ordering.{nat_cmp}
 use Rattle.std.specs.declared.cmp.Ordering.TheVariants.{Less}
 use Rattle.std.specs.List.{flat_map, range_with_len, AllByRecursion}
@@ -21,7 +21,7 @@ use Rattle.exchange_frames.proofs.Lists.{cut_again}
 use Rattle.exchange_tree.specs.declared.nodes.TheConstants.{CHILD_COUNT, PLACE_COUNT}
 use Rattle.exchange_tree.specs.Nodes.{begins, digits_of, is_beneath, beneath, child, IsDigest}
 use Rattle.exchange_tree.specs.Sums.{node_of, place_text, all_places, kept_of, sum_if_any, told, places_beneath}
-use Rattle.exchange_tree.specs.Sums.{upper_text, hashed}
+use Rattle.exchange_tree.specs.Sums.{hashed}
 use Rattle.exchange_tree.specs.Premise.{AreDigestsInOrder, AreTold, HashesTell, ToldHashesTell}
 use Rattle.exchange_tree.specs.Taking.{place_of}
 use Rattle.exchange_tree.proofs.Beginnings.{both_true, and_true, begins_less}
@@ -158,7 +158,6 @@ begins_both (n ∷ ns) (m ∷ ms) (d ∷ ds) le e f =
 
 module _ (own theirs : List (List ℕ)) (node : List ℕ) (mine : AreDigestsInOrder own) (other : AreDigestsInOrder theirs)
     (tell : HashesTell own theirs node) where
-
   below : (digit : ℕ) → digit < CHILD_COUNT → 4 ≤ length (child node digit)
       → hashed own (child node digit) ≡ hashed theirs (child node digit)
       → beneath (child node digit) own ≡ beneath (child node digit) theirs

@@ -1,16 +1,15 @@
 -- What one step of the walk finds.
-use Rattle.std.proofs.Common.{inl, inr, ◌≡◌, ℕ, ◌+◌, ◌<◌, List, [], Bool, true, false, get_or, refl, sym, ap, subst}
+use Rattle.std.proofs.Common.{inl, inr, ◌≡◌, ℕ, ◌<◌, List, [], Bool, true, false, get_or, refl, sym, subst}
 use Rattle.std.proofs.Common.{◌∙◌, arith}
 use Rattle.std.proofs.lemmas.Bool.{not-false as negated}
 use Rattle.std.proofs.lemmas.List.FromFn.{get_or-map-range_with_len}
 use Rattle.std.specs.List.{range_with_len}
 use Rattle.octets.specs.Members.{Has}
 use Rattle.octets.proofs.TextLemmas.{tied_texts}
-use Rattle.exchange_tree.specs.declared.nodes.TheConstants.{CHILD_COUNT, DEEPEST}
-use Rattle.exchange_tree.specs.Nodes.{is_beneath, beneath, child, IsDigest}
+use Rattle.exchange_tree.specs.declared.nodes.TheConstants.{CHILD_COUNT}
+use Rattle.exchange_tree.specs.Nodes.{is_beneath, beneath, child}
 use Rattle.exchange_tree.specs.Sums.{sum_of, child_sums}
 use Rattle.exchange_tree.specs.Steps.{is_unequal, differing_at, EqualDigestsTell, IsInOneAlone, StepFinds, IsFound}
-use Rattle.exchange_tree.specs.Steps.{NodesTell}
 use Rattle.exchange_tree.proofs.Lists.{has_kept, kept_has, range_has}
 use Rattle.exchange_tree.proofs.Beginnings.{children_have_all}
 

@@ -39,7 +39,10 @@ fn places_of(node: &[u8]) -> (usize, usize)
         [] => (0, PLACE_COUNT),
         [a] => (*a as usize * 4096, 4096),
         [a, b] => (*a as usize * 4096 + *b as usize * 256, 256),
-        [a, b, c] => (*a as usize * 4096 + *b as usize * 256 + *c as usize * 16, 16),
+        [a, b, c] => (
+            *a as usize * 4096 + *b as usize * 256 + *c as usize * 16,
+            16,
+        ),
         [a, b, c, d, ..] => (
             *a as usize * 4096 + *b as usize * 256 + *c as usize * 16 + *d as usize,
             1,

@@ -1,4 +1,4 @@
-use Rattle.std.proofs.Common.{◌≡◌, ℕ, get_or, sym, ap, ◌∙◌, ◌/◌}
+use Rattle.std.proofs.Common.{ℕ, ap, ◌∙◌}
 use Rattle.std.specs.Ordering.{nat_cmp}
 use Rattle.exchange_tree.proofs.Orders.{no_digit, a_digit}
 use Rattle.exchange_tree.proofs.ranges.order_at.Goals as goal

@@ -1,8 +1,8 @@
-use Rattle.std.proofs.Common.{◌≡◌, ◌+◌, ℕ, drop, get_or, refl, sym, ap, ◌∙◌, arith}
-use Rattle.std.specs.Ordering.{ordering_then, is_eq}
+use Rattle.std.proofs.Common.{◌+◌, drop, get_or, refl, sym, ap, ◌∙◌}
+use Rattle.std.specs.Ordering.{ordering_then}
 use Rattle.std.specs.declared.cmp.Ordering.{Ordering}
 use Rattle.exchange_tree.specs.Nodes.{digits_of}
-use Rattle.exchange_tree.specs.Ranges.{head_cmp, node_cmp}
+use Rattle.exchange_tree.specs.Ranges.{node_cmp}
 use Rattle.exchange_tree.proofs.Orders.{node_step, all_same, then_other, is_same, is_other}
 use Rattle.exchange_tree.proofs.ranges.order_to.Goals as goal
 

@@ -1,22 +1,19 @@
-use Rattle.std.proofs.Common.{◌≡◌, ◌++◌, ◌∷◌, [], ℕ, sym, ap, ◌∙◌, arith}
-use Rattle.std.proofs.lemmas.List.FromFn.{map-range_with_len_more}
+use Rattle.std.proofs.Common.{◌≡◌, ap, ◌∙◌, arith}
 use Rattle.std.specs.Prelude.{map}
 use Rattle.std.specs.List.{range_with_len}
 use Rattle.exchange_tree.specs.declared.nodes.TheConstants.{CHILD_COUNT}
 use Rattle.exchange_tree.specs.Nodes.{child}
 use Rattle.exchange_tree.specs.Sums.{sum_of, child_sums}
+use Rattle.exchange_tree.proofs.Lists.{more_told}
 use Rattle.exchange_tree.proofs.sums.children.Goals as goal
 
 -- One sum more is that of its child.
 pub loop-digit-preserved : goal.loop-digit-preserved
 loop-digit-preserved c =
     let ds = c.args.digests.now in
-    let node = c.args.node.now in
-    let digit = c.loop-digit.digit in
-    let sums = map (λ d. sum_of ds (child node d)) (range_with_len 0 digit) in
-    c.in_ok-push.ensures.items ∙ ap (λ ss. ss ++ c.sum.result ∷ []) c.loop-digit.invariant
-    ∙ ap (λ s. sums ++ s ∷ []) (c.sum.ensures ∙ ap (sum_of ds) (c.as_slice.ensures.value ∙ c.in_ok-child.ensures))
-    ∙ sym (map-range_with_len_more (λ d. sum_of ds (child node d)) 0 digit digit (omega arith))
+    more_told (λ d. sum_of ds (child c.args.node.now d)) c.loop-digit.digit c.loop-digit.sums.items
+    c.push.new.self.items c.sum.result c.loop-digit.invariant c.in_ok-push.ensures.items
+    (c.sum.ensures ∙ ap (sum_of ds) (c.as_slice.ensures.value ∙ c.in_ok-child.ensures))
 
 -- All are told.
 pub returns : goal.returns

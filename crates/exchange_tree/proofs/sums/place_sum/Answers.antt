@@ -1,4 +1,4 @@
-use Rattle.std.proofs.Common.{◌≡◌, None, Some, [], refl, sym, ap, ◌∙◌, arith}
+use Rattle.std.proofs.Common.{None, refl, sym, ap, ◌∙◌, arith}
 use Rattle.std.proofs.lemmas.List.{get_or_default}
 use Rattle.sha2.specs.Sha256.{sha256}
 use Rattle.exchange_frames.specs.Spelling.{digests_text}

@@ -1,4 +1,4 @@
-use Rattle.std.proofs.Common.{◌≡◌, refl, sym, ap, ◌∙◌, arith}
+use Rattle.std.proofs.Common.{ap, ◌∙◌}
 use Rattle.sha2.specs.Sha256.{sha256}
 use Rattle.exchange_frames.specs.Spelling.{digests_text}
 use Rattle.exchange_tree.specs.Nodes.{beneath}

@@ -1,4 +1,4 @@
-use Rattle.std.proofs.Common.{◌≡◌, false, refl, sym, ap, ◌∙◌}
+use Rattle.std.proofs.Common.{refl, sym, ◌∙◌}
 use Rattle.exchange_tree.proofs.Places.{no_places, upper_is}
 use Rattle.exchange_tree.proofs.sums.upper_sum.Goals as goal
 

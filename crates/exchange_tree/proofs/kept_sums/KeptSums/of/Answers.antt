@@ -1,19 +1,16 @@
-use Rattle.std.proofs.Common.{◌≡◌, ◌++◌, ◌∷◌, [], ℕ, sym, ap, ◌∙◌, arith}
-use Rattle.std.proofs.lemmas.List.FromFn.{map-range_with_len_more, length-map-range_with_len}
-use Rattle.std.specs.Prelude.{map, length}
-use Rattle.std.specs.List.{range_with_len}
-use Rattle.exchange_tree.specs.declared.nodes.TheConstants.{PLACE_COUNT}
+use Rattle.std.proofs.Common.{ap, ◌∙◌, arith}
+use Rattle.std.proofs.lemmas.List.FromFn.{length-map-range_with_len}
+use Rattle.std.specs.Prelude.{length}
 use Rattle.exchange_tree.specs.Sums.{kept_of, kept_list}
 use Rattle.exchange_tree.proofs.Kept.{kept_is}
+use Rattle.exchange_tree.proofs.Lists.{more_told}
 use Rattle.exchange_tree.proofs.kept_sums.KeptSums.of.Goals as goal
 
 -- One sum more is that of its place.
 pub loop-place-preserved : goal.loop-place-preserved
 loop-place-preserved c =
-    let arrays = c.as_arrays-arrays.result.now in
-    c.in_ok-push.ensures.items ∙ ap (λ ks. ks ++ c.sum_of_place.result ∷ []) c.loop-place.invariant
-    ∙ ap (λ k. map (kept_of arrays) (range_with_len 0 c.loop-place.place) ++ k ∷ []) c.sum_of_place.ensures
-    ∙ sym (map-range_with_len_more (kept_of arrays) 0 c.loop-place.place c.loop-place.place (omega arith))
+    more_told (kept_of c.as_arrays-arrays.result.now) c.loop-place.place c.loop-place.sums.items c.push.new.self.items
+    c.sum_of_place.result c.loop-place.invariant c.in_ok-push.ensures.items c.sum_of_place.ensures
 
 -- There is one for each place.
 pub invariant_of-result : goal.invariant_of-result

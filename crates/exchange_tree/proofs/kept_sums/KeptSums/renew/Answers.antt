@@ -1,4 +1,4 @@
-use Rattle.std.proofs.Common.{refl, sym, ap, ◌∙◌, arith, length}
+use Rattle.std.proofs.Common.{refl, ap, ◌∙◌}
 use Rattle.exchange_tree.specs.Sums.{sum_if_any}
 use Rattle.exchange_tree.proofs.Kept.{renewed}
 use Rattle.exchange_tree.proofs.kept_sums.KeptSums.renew.Goals as goal
