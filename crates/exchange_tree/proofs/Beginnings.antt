@@ -43,8 +43,8 @@ begins_more (n ∷ ns) (d ∷ ds) lt e =
     and_true (eqb d n) _ both.0 (begins_more ns ds (omega (arith, lt)) both.1)
 
 -- two children of a node with which the same digits begin are one
-begins_one : (node digits : List ℕ) (a b : ℕ) → begins (child node a) digits ≡ true → begins (child node b) digits ≡ true
-    → a ≡ b
+begins_one : (node digits : List ℕ) (a b : ℕ) → begins (child node a) digits ≡ true
+    → begins (child node b) digits ≡ true → a ≡ b
 begins_one [] [] a b e f = absurd (false≢true e)
 begins_one [] (d ∷ ds) a b e f =
     sym (eqb-true d a (both_true (eqb d a) true e).0) ∙ eqb-true d b (both_true (eqb d b) true f).0

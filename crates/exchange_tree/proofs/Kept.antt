@@ -7,7 +7,8 @@ use Rattle.std.specs.Prelude.{map, slice_set}
 use Rattle.std.specs.List.{range_with_len, flat_map}
 use Rattle.exchange_tree.specs.declared.nodes.TheConstants.{PLACE_COUNT}
 use Rattle.exchange_tree.specs.Nodes.{beneath}
-use Rattle.exchange_tree.specs.Sums.{all_places, kept_of, kept_list, node_of, told, told_text, sum_if_any, SameElsewhere}
+use Rattle.exchange_tree.specs.Sums.{all_places, kept_of, kept_list, node_of, told, told_text, sum_if_any}
+use Rattle.exchange_tree.specs.Sums.{SameElsewhere}
 
 -- ---- every place
 
@@ -71,7 +72,8 @@ renewed kept place n v own before after e lt is was same now =
 -- ---- kept sums, one behind the other
 
 pub told_more : (kept : List (Option (List ℕ))) (n a place : ℕ) → a + n ≡ place
-    → told_text kept (range_with_len a (n + 1)) ≡ told_text kept (range_with_len a n) ++ told place (get_or kept place None)
+    → told_text kept (range_with_len a (n + 1))
+    ≡ told_text kept (range_with_len a n) ++ told place (get_or kept place None)
 told_more kept zero a place e =
     let at : a ≡ place = omega (arith, e) in
     append-nil (told a (get_or kept a None)) ∙ ap (λ p. told p (get_or kept p None)) at

@@ -78,7 +78,8 @@ digits_less (a ∷ xs) (b ∷ ys) e = by (three a b) (three (a / 16) (b / 16)) (
         then_same (a / 16) (b / 16) low high ∙ then_less (a % 16) (b % 16) rest (omega (arith, lt, high))
     by (inl lt) (inr (inr high)) more = absurd (omega (arith, lt, high))
     by (inr (inl same)) high more =
-        then_same (a / 16) (b / 16) low (ap (λ n. n / 16) same) ∙ then_same (a % 16) (b % 16) rest (ap (λ n. n % 16) same)
+        then_same (a / 16) (b / 16) low (ap (λ n. n / 16) same)
+        ∙ then_same (a % 16) (b % 16) rest (ap (λ n. n % 16) same)
         ∙ more (sym (then_same a b (text_cmp xs ys) same) ∙ e)
     by (inr (inr gt)) high more = absurd (greater≢less (sym (then_greater a b (text_cmp xs ys) gt) ∙ e))
 
@@ -215,7 +216,8 @@ through_parts node ds sorted i j d le lt e = by (three i j)
 
 -- ---- the range
 
-pub sorted_behind : (n : ℕ) (ds : List (List ℕ)) → IsStrictlySortedBy text_cmp ds → IsStrictlySortedBy text_cmp (drop n ds)
+pub sorted_behind : (n : ℕ) (ds : List (List ℕ)) → IsStrictlySortedBy text_cmp ds
+    → IsStrictlySortedBy text_cmp (drop n ds)
 unfolding IsStrictlySortedBy
 sorted_behind zero ds sorted = sorted
 sorted_behind (suc n) [] sorted = sorted

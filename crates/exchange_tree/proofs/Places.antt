@@ -1,12 +1,13 @@
 -- The places beneath a node.
-use Rattle.std.proofs.Common.{inl, inr, ◌≡◌, ℕ, zero, suc, ◌+◌, ◌*◌, ◌<◌, ◌≤◌, List, [], ◌∷◌, Bool, true, false, cond, eqb}
-use Rattle.std.proofs.Common.{length, get_or, Option, Some, None, refl, sym, ap, ◌∙◌, arith}
+use Rattle.std.proofs.Common.{inl, inr, ◌≡◌, ℕ, zero, suc, ◌+◌, ◌*◌, ◌<◌, ◌≤◌, List, [], ◌∷◌, Bool, true, false, cond}
+use Rattle.std.proofs.Common.{eqb, length, get_or, Option, Some, None, refl, sym, ap, ◌∙◌, arith}
 use Rattle.std.proofs.lemmas.Bool.{false≢true, eqb-true}
 use Rattle.std.specs.Prelude.{◌⊎◌, ◌&&◌, ◌/◌, ◌%◌, nat_lt, filter, if◌then◌else◌}
 use Rattle.std.specs.List.{list_all, range_with_len, flat_map}
 use Rattle.exchange_tree.specs.declared.nodes.TheConstants.{PLACE_COUNT}
 use Rattle.exchange_tree.specs.Nodes.{begins, beneath}
-use Rattle.exchange_tree.specs.Sums.{node_of, place_text, ArePlacesOf, places_beneath, kept_of, kept_list, sum_if_any, told, told_text}
+use Rattle.exchange_tree.specs.Sums.{node_of, place_text, ArePlacesOf, places_beneath, kept_of, kept_list}
+use Rattle.exchange_tree.specs.Sums.{sum_if_any, told, told_text}
 use Rattle.exchange_tree.specs.Sums.{upper_text, hashed}
 use Rattle.octets.specs.Bytes.{IsBytes}
 use Rattle.sha2.specs.Sha256.{sha256}

@@ -1,7 +1,7 @@
 -- The premise of a step, from pairs of texts that SHA-256 tells apart.
-use Rattle.std.proofs.Common.{inl, inr, ◌≡◌, ℕ, zero, suc, ◌+◌, ◌*◌, ◌<◌, ◌≤◌, List, [], ◌∷◌, ◌++◌, Bool, true, false, eqb}
+use Rattle.std.proofs.Common.{inl, inr, ◌≡◌, ℕ, zero, suc, ◌+◌, ◌*◌, ◌<◌, ◌≤◌, List, [], ◌∷◌, ◌++◌, Bool, true, false}
 use Rattle.std.proofs.Common.{Option, Some, None, length, get_or, take, drop, refl, sym, ap, subst, ◌∙◌, arith}
-use Rattle.std.proofs.Common.{length-append}
+use Rattle.std.proofs.Common.{eqb, length-append}
 use Rattle.std.proofs.lemmas.Bool.{false≢true, eqb-true}
 use Rattle.std.proofs.lemmas.List.{take_at, drop_at}
 use Rattle.std.proofs.lemmas.List.Kept.{IsStrictlySortedBy-filter}
@@ -125,7 +125,8 @@ read_once f g (q ∷ ps) long too sorted e p h =
 
 range_above : (n a b : ℕ) → a < b → AllByRecursion (λ y. nat_cmp a y ≡ Less) (range_with_len b n)
 range_above zero a b lt = tt
-range_above (suc n) a b lt = (let less : nat_cmp a b ≡ Less = grind (arith, lt) in less, range_above n a (b + 1) (omega (arith, lt)))
+range_above (suc n) a b lt =
+    let less : nat_cmp a b ≡ Less = grind (arith, lt) in (less, range_above n a (b + 1) (omega (arith, lt)))
 
 range_sorted : (n a : ℕ) → IsStrictlySortedBy nat_cmp (range_with_len a n)
 unfolding IsStrictlySortedBy

@@ -49,7 +49,8 @@ step_finds own theirs node digest tell is lt within alone =
         → IsFound own theirs node digest
     by true e = record {
       digit = digit;
-      unequal = has_kept (is_unequal (child_sums own node) (child_sums theirs node)) (range_with_len 0 CHILD_COUNT) digit
+      unequal = has_kept (is_unequal (child_sums own node) (child_sums theirs node))
+          (range_with_len 0 CHILD_COUNT) digit
           (range_has CHILD_COUNT 0 digit (omega arith) (omega (arith, found.1))) e;
       within = found.2;
     }

@@ -1,6 +1,6 @@
 -- The sums of nodes.
-use Rattle.std.specs.Prelude.{◌≡◌, ◌<◌, ◌≤◌, ◌+◌, true, ℕ, ◌/◌, ◌%◌, nat_lt, get_or, List, [], ◌∷◌, ◌++◌, filter, map, length, Option, Some, None}
-use Rattle.std.specs.Prelude.{if◌then◌else◌}
+use Rattle.std.specs.Prelude.{◌≡◌, ◌<◌, ◌≤◌, ◌+◌, ℕ, ◌/◌, ◌%◌, nat_lt, true, List, [], ◌∷◌, ◌++◌, filter, map, length}
+use Rattle.std.specs.Prelude.{get_or, Option, Some, None, if◌then◌else◌}
 use Rattle.std.specs.List.{flat_map, range_with_len}
 use Rattle.std.specs.List.Sorted.{IsStrictlySortedBy}
 use Rattle.sha2.specs.Sha256.{sha256}

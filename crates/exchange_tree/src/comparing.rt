@@ -25,8 +25,7 @@ fn is_unequal(own: &[Digest], theirs: &[Digest], digit: usize) -> bool
 
 /// The digits of the children of a node of which two lists of sums, by digits, have unequal ones,
 /// ascending. What stands behind 16 is not compared; a list that ends before has nothing there,
-/// which no sum is equal to.
-#[tactic(auto, unfolding(crate::specs::Steps::differing_at))]
+/// which no sum is equal to. The one error is want of memory.
 pub fn differing(alloc: Global, own: &[Digest], theirs: &[Digest]) -> Result<Vec<u8>, AllocError>
     ensures { IfOk result (λ digits. digits.items ≡ differing_at own.now theirs.now) }
 {

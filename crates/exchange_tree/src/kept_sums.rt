@@ -1,6 +1,6 @@
 //! The sums of the places, which a site keeps.
 
-ghost use Rattle.std.specs.Prelude.{◌≡◌, ◌<◌, List, ℕ, IfOk, None, get_or, length, slice_set};
+ghost use Rattle.std.specs.Prelude.{◌≡◌, ◌<◌, List, ℕ, IfOk, length, slice_set};
 ghost use Rattle.std.specs.List.Sorted.{IsStrictlySortedBy};
 ghost use Rattle.octets.specs.Texts.{text_cmp};
 ghost use Rattle.exchange_tree.specs.Nodes.{beneath as those_beneath};
@@ -66,8 +66,7 @@ fn sum_of_place(digests: &[[u8; DIGEST_LENGTH]], place: usize) -> Option<Digest>
 
 impl KeptSums {
     /// Those of some digests that ascend, each once. Each digest is hashed once, and each place
-    /// found by two searches by halves.
-    #[tactic(auto, unfolding(crate::specs::Sums::kept_list))]
+    /// found by two searches by halves. The one error is want of memory.
     pub fn of(alloc: Global, digests: &Digests) -> Result<KeptSums, AllocError>
         requires { IsStrictlySortedBy text_cmp digests.now }
         ensures { IfOk result (λ kept. kept ≡ kept_list digests.now) }

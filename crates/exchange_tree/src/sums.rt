@@ -134,8 +134,7 @@ fn child_of(alloc: Global, node: &[u8], digit: u8) -> Result<Vec<u8>, AllocError
 }
 
 /// The sums of the 16 children of a node, by their digits, over some digests that ascend, of which
-/// the sums are kept.
-#[tactic(auto, unfolding(crate::specs::Sums::child_sums))]
+/// the sums are kept. The one error is want of memory.
 pub fn children(
     alloc: Global,
     kept: &KeptSums,

@@ -31,4 +31,5 @@ returns-then-ne c =
 
 -- All digits are equal.
 pub returns : goal.returns
-returns c = sym (sym c.loop-at.invariant ∙ all_same (digits_of c.args.bytes.now) c.args.node.now c.loop-at.at c.loop-at-test.false)
+returns c = sym (sym c.loop-at.invariant
+    ∙ all_same (digits_of c.args.bytes.now) c.args.node.now c.loop-at.at c.loop-at-test.false)

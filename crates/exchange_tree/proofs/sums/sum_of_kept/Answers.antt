@@ -17,7 +17,8 @@ loop-place-preserved c =
     let at : first + (place - first) ≡ place = omega (arith, c.loop-place.auto.place) in
     subst (Holds256 c.feed.new.hasher)
     (ap (λ sum. so_far ++ told place sum) (c.index-kept-place.is
-    ∙ get_or_default kept place c.index-kept-place.result None (omega (arith, c.loop-place-test.true, c.requires.bound)))
+    ∙ get_or_default kept place c.index-kept-place.result None
+    (omega (arith, c.loop-place-test.true, c.requires.bound)))
     ∙ sym (told_more kept (place - first) first place at)
     ∙ ap (λ n. told_text kept (range_with_len first n)) long)
     (c.feed.ensures so_far c.loop-place.invariant)
