@@ -22,4 +22,5 @@ pub use laws::{
 };
 pub use nodes::{CHILD_COUNT, DEEPEST, KEPT_DEPTH, PLACE_COUNT, place_of_digest};
 pub use numbers::limits_of_nodes_are_these;
+pub use ranges::count_beneath;
 pub use sums::{children, sum};

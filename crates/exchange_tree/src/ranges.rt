@@ -8,7 +8,7 @@ ghost use Rattle.exchange_frames.specs.Spelling.{digests_text};
 ghost use Rattle.exchange_tree.specs.Nodes.{digits_of, beneath};
 ghost use Rattle.exchange_tree.specs.Ranges.{head_cmp, node_cmp, is_before, is_through};
 
-use exchange_frames::DIGEST_LENGTH;
+use exchange_frames::{DIGEST_LENGTH, Digests};
 use operation::Digest;
 use std::cmp::Ordering;
 
@@ -82,6 +82,15 @@ pub(crate) fn range_of<'a>(
     let (_, behind) = digests.split_at(count_before(digests, node));
     let (beneath, _) = behind.split_at(count_through(behind, node));
     beneath
+}
+
+/// How many of some digests that ascend lie beneath a node. They are counted by two searches by
+/// halves, and it takes no memory.
+pub fn count_beneath(digests: &Digests, node: &[u8]) -> usize
+    requires { IsStrictlySortedBy text_cmp digests.now }
+    ensures { result ≡ length (beneath node.now digests.now) }
+{
+    range_of(digests.as_arrays(), node).len()
 }
 
 /// The SHA-256 of digests, one behind the other (FIPS 180-4).

@@ -18,7 +18,7 @@ use Rattle.walk_frames.specs.Entries.{EntryParts}
 use Rattle.walk_frames.specs.Walks.{passes_next, all_pass, is_earlier, stand_apart, AreApart}
 
 -- where two nodes first differ, the one has the lesser digit
-abbrev before : List ℕ → List ℕ → Bool
+abbrev pub before : List ℕ → List ℕ → Bool
 before [] b = false
 before (x ∷ xs) [] = false
 before (x ∷ xs) (y ∷ ys) = cond (ltb x y) true (cond (eqb x y) (before xs ys) false)
@@ -32,7 +32,7 @@ differ x y lt = ne_eqb x y (λ e. omega (arith, e, lt))
 differ_back : (x y : ℕ) → y < x → eqb x y ≡ false
 differ_back x y lt = ne_eqb x y (λ e. omega (arith, e, lt))
 
-same_is : (a b : List ℕ) → is_before a b ≡ before a b
+pub same_is : (a b : List ℕ) → is_before a b ≡ before a b
 same_is [] [] = refl
 same_is [] (y ∷ ys) = refl
 same_is (x ∷ xs) [] = refl
@@ -47,7 +47,7 @@ same_is (x ∷ xs) (y ∷ ys) = by_order (cases_order x y) (same_is xs ys)
 -- ---- one order
 
 -- which digit decides
-decided : (x y : ℕ) (rest : Bool) → first_digit x y rest ≡ true → (x < y) ⊎ ((x ≡ y) × (rest ≡ true))
+pub decided : (x y : ℕ) (rest : Bool) → first_digit x y rest ≡ true → (x < y) ⊎ ((x ≡ y) × (rest ≡ true))
 decided x y rest e = by_less (cases_Bool (ltb x y)) (cases_Bool (eqb x y))
   where
     by_less : (ltb x y ≡ true) ⊎ (ltb x y ≡ false) → (eqb x y ≡ true) ⊎ (eqb x y ≡ false)
@@ -56,13 +56,13 @@ decided x y rest e = by_less (cases_Bool (ltb x y)) (cases_Bool (eqb x y))
     by_less (inr le) (inl s) = inr (eqb-true x y s, rw (le, s) at e)
     by_less (inr le) (inr s) = absurd (cc (rw (le, s) at e))
 
-at_once : (x y : ℕ) (rest : Bool) → x < y → first_digit x y rest ≡ true
+pub at_once : (x y : ℕ) (rest : Bool) → x < y → first_digit x y rest ≡ true
 at_once x y rest lt = rw (lt-ltb x y lt) refl
 
-further : (x y : ℕ) (rest : Bool) → x ≡ y → rest ≡ true → first_digit x y rest ≡ true
+pub further : (x y : ℕ) (rest : Bool) → x ≡ y → rest ≡ true → first_digit x y rest ≡ true
 further x y rest e more = rw (le-ltb x y (omega (arith, e)), eqb_is x y e, more) refl
 
-before_then : (a b c : List ℕ) → before a b ≡ true → before b c ≡ true → before a c ≡ true
+pub before_then : (a b c : List ℕ) → before a b ≡ true → before b c ≡ true → before a c ≡ true
 before_then [] b c p q = absurd cc
 before_then (x ∷ xs) [] c p q = absurd cc
 before_then (x ∷ xs) (y ∷ ys) [] p q = absurd cc
@@ -100,7 +100,7 @@ are_apart entry later p =
 
 -- ---- all later entries
 
-abbrev Precedes : EntryParts → EntryParts → Type 0
+abbrev pub Precedes : EntryParts → EntryParts → Type 0
 Precedes entry later = before entry.node later.node ≡ true
 
 lower : (entry later : EntryParts) (entries : List EntryParts) → Precedes entry later
@@ -109,7 +109,7 @@ lower entry later [] p all = tt
 lower entry later (e ∷ entries) p all =
     (before_then entry.node later.node e.node p all.0, lower entry later entries p all.1)
 
-all_later : (entry : EntryParts) (entries : List EntryParts) → all_pass is_earlier (entry ∷ entries) ≡ true
+pub all_later : (entry : EntryParts) (entries : List EntryParts) → all_pass is_earlier (entry ∷ entries) ≡ true
     → AllByRecursion (Precedes entry) entries
 all_later entry [] e = tt
 all_later entry (later ∷ entries) e =
