@@ -1,6 +1,6 @@
 -- The entries of an answer ascend, and none lies within another.
 use Rattle.std.proofs.Common.{inl, inr, ◌≡◌, ◌⊎◌, ℕ, zero, suc, ◌+◌, ◌<◌, ◌≤◌, List, [], ◌∷◌, ◌++◌, Bool, true, false}
-use Rattle.std.proofs.Common.{cond, Option, Some, None, leb, length, take, refl, sym, ap, subst, ◌∙◌, arith}
+use Rattle.std.proofs.Common.{cond, Option, Some, None, leb, length, take, refl, sym, subst, ◌∙◌, arith}
 use Rattle.std.proofs.lemmas.Bool.{and_parts, and_from}
 use Rattle.std.proofs.lemmas.List.Concat.{flat_map-cons}
 use Rattle.std.specs.Prelude.{⊤, map, filter}
@@ -20,7 +20,7 @@ use Rattle.exchange_walk.proofs.Members.{of_each, take_has, parts_have, map_has,
 -- ---- nodes
 
 -- what stands before another does so with whatever is behind the two
-before_behind : (a b x y : List ℕ) → before a b ≡ true → before (a ++ x) (b ++ y) ≡ true
+pub before_behind : (a b x y : List ℕ) → before a b ≡ true → before (a ++ x) (b ++ y) ≡ true
 before_behind [] b x y p = absurd cc
 before_behind (m ∷ ms) [] x y p = absurd cc
 before_behind (m ∷ ms) (n ∷ ns) x y p = by (decided m n (before ms ns) p) (before_behind ms ns x y)

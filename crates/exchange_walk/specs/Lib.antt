@@ -1,3 +1,4 @@
 pub mod Answers
 pub mod Splits
 pub mod Hearing
+pub mod Laws
