@@ -60,9 +60,12 @@ answers_chain : (first : List EntryParts) (later : List (List EntryParts)) → F
     → Chain first later
 answers_chain first [] fits chain = tt
 answers_chain first (heard ∷ later) fits chain =
-    let is = sym chain.1.1 in
-    (fits, chain.0, subst (IsAnswerTo first) is (entries_lie.children chain.1.0 first),
-    answers_chain heard later (subst Fits is (answer_fits chain.1.0 first)) chain.2)
+    let is = sym chain.1.1 in (
+      fits,
+      chain.0,
+      subst (IsAnswerTo first) is (entries_lie.children chain.1.0 first),
+      answers_chain heard later (subst Fits is (answer_fits chain.1.0 first)) chain.2,
+    )
 
 pub walk_ends : WalkEnds
 walk_ends = record {

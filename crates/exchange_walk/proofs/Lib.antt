@@ -6,3 +6,4 @@ pub mod Order
 pub mod Finding
 pub mod Ending
 pub mod Children
+pub mod Whole

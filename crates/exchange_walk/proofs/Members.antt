@@ -1,8 +1,8 @@
 -- What is in lists that are made of others.
 use Rattle.std.proofs.Common.{inl, inr, ◌≡◌, ◌⊎◌, ℕ, zero, suc, List, [], ◌∷◌, ◌++◌, Bool, true, false, take, refl, sym, ap}
-use Rattle.std.proofs.Common.{subst}
+use Rattle.std.proofs.Common.{◌∙◌, subst}
 use Rattle.std.proofs.lemmas.List.Concat.{flat_map-cons}
-use Rattle.std.specs.Prelude.{map}
+use Rattle.std.specs.Prelude.{◌||◌, map}
 use Rattle.std.specs.List.{flat_map, AllByRecursion, list_any}
 use Rattle.octets.specs.Members.{Has}
 
@@ -91,3 +91,17 @@ some_passes {X = X} p (x ∷ xs) e = by (p x) refl (some_passes p xs)
     by false is rest =
         let more = rest (rw is at e) in
         (more.0, inr more.1, more.2)
+
+first_passes : (a b : Bool) → a ≡ true → (a || b) ≡ true
+first_passes true b e = refl
+first_passes false b e = absurd cc
+
+other_passes : (a b : Bool) → b ≡ true → (a || b) ≡ true
+other_passes true b e = refl
+other_passes false b e = e
+
+-- and if one does, some do
+pub has_passes : {X : Type 0} (p : X → Bool) (xs : List X) (x : X) → Has xs x → p x ≡ true → list_any p xs ≡ true
+has_passes p [] x h e = absurd h
+has_passes p (y ∷ ys) x (inl at) e = first_passes (p y) (list_any p ys) (ap p (sym at) ∙ e)
+has_passes p (y ∷ ys) x (inr h) e = other_passes (p y) (list_any p ys) (has_passes p ys x h e)

@@ -85,9 +85,10 @@ front (suc n) (e ∷ xs) a = (λ x h. a.0 x (take_has n xs x h), front n xs a.1)
 
 pub ascends : (walk : List EntryParts) → all_pass is_earlier walk ≡ true → Ascends walk
 ascends [] e = tt
-ascends (entry ∷ walk) e =
-    (λ x h. of_each (Precedes entry) walk x (all_later entry walk e) h,
-        ascends walk (and_parts (passes_next is_earlier entry walk) (all_pass is_earlier walk) e).1)
+ascends (entry ∷ walk) e = (
+  λ x h. of_each (Precedes entry) walk x (all_later entry walk e) h,
+  ascends walk (and_parts (passes_next is_earlier entry walk) (all_pass is_earlier walk) e).1,
+)
 
 apart : (walk : List EntryParts) → Ascends walk → all_pass is_earlier walk ≡ true
 apart [] a = refl

@@ -2,3 +2,4 @@ pub mod Answers
 pub mod Splits
 pub mod Hearing
 pub mod Laws
+pub mod WholeWalks

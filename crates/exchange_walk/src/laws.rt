@@ -2,6 +2,7 @@
 //! nothing to do.
 
 ghost use Rattle.exchange_walk.specs.Laws.{AnswerFinds, SaidIsTold, EntriesLieBeneath, WalkEnds};
+ghost use Rattle.exchange_walk.specs.WholeWalks.{WholeWalkFinds};
 
 /// A digest that is in one of two sets and not in the other, beneath the node of a split that was
 /// heard, is beneath the node of an entry of the answer, or the answer is full. It stands on this:
@@ -26,4 +27,12 @@ pub fn entries_lie_beneath_what_was_told()
 /// answer to the sums of an equal set is empty.
 pub fn a_walk_ends()
     ensures { WalkEnds }
+{}
+
+/// A digest that is in one of two sets and not in the other at each turn of a walk from the root,
+/// however both change otherwise, is beneath a place of one of the walks, once one has no splits, or
+/// an answer was full. It stands on this: at each turn, where two sums that were compared are equal,
+/// so are the digests beneath.
+pub fn a_whole_walk_finds_what_one_lacks()
+    ensures { WholeWalkFinds }
 {}

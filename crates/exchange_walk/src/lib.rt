@@ -18,8 +18,8 @@ pub use answering::{answer, root};
 pub use answers::Answer;
 pub use hearing::is_answer_to;
 pub use laws::{
-    a_site_tells_its_own_sums, a_walk_ends, an_answer_finds_what_one_lacks,
-    entries_lie_beneath_what_was_told,
+    a_site_tells_its_own_sums, a_walk_ends, a_whole_walk_finds_what_one_lacks,
+    an_answer_finds_what_one_lacks, entries_lie_beneath_what_was_told,
 };
 pub use numbers::largest_place_is_this;
 pub use splits::{has_splits, places};

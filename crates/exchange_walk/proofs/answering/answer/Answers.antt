@@ -8,8 +8,11 @@ use Rattle.exchange_walk.proofs.answering.answer.Goals as goal
 
 -- The entries that are left are no more than a walk has.
 pub walk_of-requires-clause-short : goal.walk_of-requires-clause-short
-walk_of-requires-clause-short c = omega (arith, ap length c.truncate.ensures.items,
-    front_short 4096 c.in_ok-entries.entries.items)
+walk_of-requires-clause-short c = omega (
+  arith,
+  ap length c.truncate.ensures.items,
+  front_short 4096 c.in_ok-entries.entries.items,
+)
 
 -- They stand apart.
 pub walk_of-requires-clause-apart : goal.walk_of-requires-clause-apart

@@ -19,8 +19,11 @@ returns-in_default c =
 pub returns-then-digits-ge-MOST_DIGITS : goal.returns-then-digits-ge-MOST_DIGITS
 returns-then-digits-ge-MOST_DIGITS c =
     let before = c.args.entries.now.items in
-    let none = none_to_deepest c.args.site.now c.args.heard.now (omega (arith, c.if-digits-ge-MOST_DIGITS.true,
-    ap length (c.digits.ensures.value ∙ c.node-node.ensures))) in
+    let none = none_to_deepest c.args.site.now c.args.heard.now (omega (
+      arith,
+      c.if-digits-ge-MOST_DIGITS.true,
+      ap length (c.digits.ensures.value ∙ c.node-node.ensures),
+    )) in
     sym (ap (λ es. take 4097 (before ++ es)) none ∙ front_alone 4097 before (omega (arith, c.requires)))
 
 -- Nothing is put yet.

@@ -16,11 +16,11 @@ returns-then-not-is_child_of_split c =
     let same = ap (λ (e : EntryParts). e.node) (sym c.entry-item.is) ∙ sym c.node.ensures in (
       λ e. absurd cc,
       λ all.
-      let h = subst (λ es. Has es (get_or heard at item)) c.entries-entry-items.ensures.value (has_at heard at item lt) in
-      let is = c.is_child_of_split.ensures.1 (subst (λ s. IsChildOfSplit s c.node.result.now)
-      (sym c.entries-said.ensures.value)
-      (subst (IsChildOfSplit c.args.said.now) same (all (get_or heard at item) h))) in
-      absurd (let clash = sym is ∙ c.if-not-is_child_of_split.true in cc),
+          let h = subst (λ es. Has es (get_or heard at item)) c.entries-entry-items.ensures.value (has_at heard at item lt) in
+          let is = c.is_child_of_split.ensures.1 (subst (λ s. IsChildOfSplit s c.node.result.now)
+          (sym c.entries-said.ensures.value)
+          (subst (IsChildOfSplit c.args.said.now) same (all (get_or heard at item) h))) in
+          absurd (let clash = sym is ∙ c.if-not-is_child_of_split.true in cc),
     )
 
 -- One more is.
