@@ -1,0 +1,5 @@
+pub mod Answers
+pub mod Splits
+pub mod Hearing
+pub mod Laws
+pub mod WholeWalks
