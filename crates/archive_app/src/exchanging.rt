@@ -116,8 +116,8 @@ fn met_before<'a>(
     unread: u64,
     refused: Refused<'a>,
 ) -> Result<Met<'a>, Refused<'a>>
-    ensures first { before ≡ None → result ≡ Err refused }
-    ensures later { IfSome before (λ all. result ≡ Ok (all, unread, Some refused)) }
+    ensures first { before ≡ None → result ≡ Err refused.entry }
+    ensures later { IfSome before (λ all. result ≡ Ok (all, unread, Some refused.entry)) }
 {
     match before {
         None => Err(refused),
