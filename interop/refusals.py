@@ -107,6 +107,7 @@ def try_words(refusals):
                  ["--workers", "one", "--each", "1"], [*SERVED, "--rounds", "4294967296"],
                  [*SERVED, "--idle", "86401"], [*SERVED, "--idle", "-1"], [*SERVED, "--exchange-workers", "2"],
                  ["--workers", "63", "--each", "1", "--exchange", f"127.0.0.1:{free_port()}", "--rounds", "1"],
+                 [*SERVED, "--exchange", f"0.0.0.0:{free_port()}", "--rounds", "1"],
                  [*SERVED, "--rounds", "1"], [*SERVED, "--exchange", f"127.0.0.1:{free_port()}"],
                  [*SERVED, "--every", "1"], [*SERVED, "--page-allow", "10.0.0.0/8"],
                  ["--workers", "64", "--each", "1", "--page", f"127.0.0.1:{free_port()}"],

@@ -1,1 +1,2 @@
 mod CauseLaws
+mod HeldLaws

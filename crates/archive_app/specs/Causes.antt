@@ -51,6 +51,9 @@ words_of_file file.Hidden =
     codes "a rejection note may be among what can't be read: archive exchange with another site, or a restore, "
     ++ codes "mends it; --show-without serves without it"
 words_of_file file.LostFrames = codes "its -wal is damaged, and an open would lose frames: archive move brings out the rest"
+words_of_file (file.Missing count) =
+    codes "it held more operations, as where an older copy is in its place: archive exchange "
+    ++ codes "with another site brings them, --show-without serves without; missing:"
 
 -- what an address refuses for
 abbrev pub words_of_net : NetCause → List ℕ
@@ -135,6 +138,7 @@ words_of (cause.Fault fault) = words_of_fault fault
 -- the byte of a file at which it is, where that is known
 abbrev pub place_in : Cause → Option ℕ
 place_in (cause.File (file.Heads at)) = Some at
+place_in (cause.File (file.Missing count)) = Some count
 place_in _ = None
 
 -- why a file is refused, by the kind of the system's error

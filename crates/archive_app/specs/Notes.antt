@@ -6,7 +6,7 @@ use Rattle.std.specs.List.{ends_with}
 use Rattle.archive_app.specs.declared.output.notes.Note.{Note}
 use Rattle.archive_app.specs.declared.output.notes.Note.TheVariants.{InLog, Made, WithoutLog, ShownWithout, NoDate, NoTime}
 use Rattle.archive_app.specs.declared.output.notes.Note.TheVariants.{DamagedRecords, NoRecords, NoHeads, OtherRecords}
-use Rattle.archive_app.specs.declared.output.notes.Note.TheVariants.{RenewedHeads, HiddenGroup, ShortBodies, LostFrames, RestOfLog}
+use Rattle.archive_app.specs.declared.output.notes.Note.TheVariants.{RenewedHeads, HiddenGroup, ShortBodies, DamagedHeld, NoHeld, LostFrames, RestOfLog}
 use Rattle.archive_app.specs.declared.output.notes.Note.TheVariants.{UnknownStudy, UnknownPatient, UnknownSeries}
 
 -- each note in words
@@ -21,7 +21,9 @@ words_of_note NoHeads = codes "its file heads is empty, and bodies is not: what 
 words_of_note RenewedHeads = codes "its file heads was of an older form, and is renewed"
 words_of_note HiddenGroup = codes "its older heads have a group behind their end, which does not count: see heads.older"
 words_of_note ShortBodies =
-    codes "its file bodies ended before its heads lead: what is lacking can't be read till it comes again"
+    codes "its file bodies ended too soon: what it lacks can't be read till it comes again"
+words_of_note DamagedHeld = codes "its file held is damaged: whether operations are missing isn't known"
+words_of_note NoHeld = codes "its file held can't be written: operations that go missing may not be told"
 words_of_note OtherRecords =
     codes "its file records does not follow its log: remove it, and the next start makes it anew"
 words_of_note ShownWithout =

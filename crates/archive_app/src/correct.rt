@@ -2,8 +2,9 @@
 
 use crate::file::{OnStore, on_shelf};
 use crate::folder::{Starting, is_absent, is_folder, site_in};
+use crate::held::refuse_missing;
 use crate::output::{Cause, CommandFault, Note, line_of_stamp};
-use crate::refused::{Done, Refused, about, done_without, note};
+use crate::refused::{Done, Lacks, Refused, about, done_without, note};
 use command_words::{Change, Correcting, Part, bad_part, unmatched};
 use key_matching::Matching;
 use operation::Target;
@@ -42,8 +43,8 @@ fn note_of_target(target: &Target) -> Note {
 
 /// A correction that a site makes.
 #[derive(Drop)]
-struct Making<'a> {
-    rt: &'a HostRuntime,
+struct Making<'h, 'a> {
+    rt: &'h HostRuntime,
     file: &'a str,
     site: u16,
     change: Change,
@@ -52,10 +53,10 @@ struct Making<'a> {
 /// A correction that was made, and without how many operations.
 type Made = (Corrected, u64);
 
-impl<'a> OnStore for Making<'a> {
-    type Told = Result<Made, CommandFault>;
+impl<'h, 'a> OnStore for Making<'h, 'a> {
+    type Told = Result<Made, Refused<'a>>;
 
-    fn on<S: Store + Drop + Send>(self, mut store: S) -> Result<Made, CommandFault> {
+    fn on<S: Store + Drop + Send>(self, mut store: S) -> Result<Made, Refused<'a>> {
         let Making {
             rt,
             file,
@@ -63,11 +64,10 @@ impl<'a> OnStore for Making<'a> {
             change,
         } = self;
         let Change { target, tag, value } = change;
+        refuse_missing(rt, file, &mut store)?;
         let (alloc, starting) = (rt.alloc(), Starting::begins(rt, file));
-        match correct_on(alloc, &mut store, site, target, tag, value, &starting) {
-            Ok(made) => Ok((made, 0)),
-            Err(fault) => Err(CommandFault::from(fault)),
-        }
+        let made = correct_on(alloc, &mut store, site, target, tag, value, &starting);
+        Ok((about(file, made)?, 0))
     }
 }
 
@@ -81,6 +81,7 @@ fn made_in_folder<'a, T: Threads + Sync>(
 ) -> Result<Made, Refused<'a>> {
     let Change { target, tag, value } = change;
     let (sited, mut log) = site_in(rt, threads, folder)?;
+    refuse_missing(rt, folder, &mut log)?;
     let made = about(
         folder,
         correct_with(&mut log, &sited.site, number, target, tag, value),
@@ -109,7 +110,7 @@ fn made<'a, T: Threads + Sync>(
         site,
         change,
     };
-    about(file, on_shelf(rt, file, making)?)
+    on_shelf(rt, file, making)?
 }
 
 /// Why a correction is refused: the part of it that may not be, where it is for one.
@@ -124,8 +125,9 @@ fn with_part<'a>(refused: Refused<'a>, bad: Option<Part>) -> Refused<'a> {
 }
 
 /// Makes a correction, and says its stamp once the file has it. It warns of a value that no query
-/// matches, and of a target of which the site has nothing. Where a row of a file can't be read,
-/// none is made; of a folder, whose corrections stand in its heads, the site is without what can't
+/// matches, and of a target of which the site has nothing. Where operations are missing, or a row
+/// of a file can't be read, none is made, since its stamp may have been given; of a folder, whose
+/// corrections stand in its heads, the site is without what can't
 /// be read, and then it ends with a fault.
 pub fn correct<'a, T: Threads + Sync>(
     rt: &HostRuntime,
@@ -146,5 +148,5 @@ pub fn correct<'a, T: Threads + Sync>(
         note(rt, file, of_target);
     }
     let text = about(file, line_of_stamp(rt.alloc(), made.stamp))?;
-    Ok(done_without(rt, file, text, unread))
+    Ok(done_without(rt, file, text, Lacks { unread, missing: 0 }))
 }

@@ -5,9 +5,10 @@ ghost use Rattle.archive_app.specs.Causes.{is_own as is_own_in};
 
 use crate::file::{OnStore, on_shelf};
 use crate::folder::{Starting, is_absent, is_folder, site_in};
+use crate::held::keep_held;
 use crate::output::{CommandFault, NetCause, lines_of_exchange, reach_cause_of};
 use crate::progress::{Progress, Reading, Writing};
-use crate::refused::{Done, Refused, about, done_without};
+use crate::refused::{Done, Lacks, Refused, about, done_without};
 use crate::serve::wait_of;
 use archive_server::{NetFault, Wire};
 use command_words::Exchanging;
@@ -105,23 +106,23 @@ fn exchange_over<S: Store + Drop>(
     behind
 }
 
-/// What came of exchanges, how many operations of this side can't be read, and why one that
-/// followed the first broke off.
-type Met<'a> = (Ended, u64, Option<Refused<'a>>);
+/// What came of exchanges, what this side lacks still, and why one that followed the first broke
+/// off.
+type Met<'a> = (Ended, Lacks, Option<Refused<'a>>);
 
 /// What came of exchanges of which one broke off: of the first nothing, and of a later one what
 /// those before it brought.
 fn met_before<'a>(
     before: Option<Ended>,
-    unread: u64,
+    lacks: Lacks,
     refused: Refused<'a>,
 ) -> Result<Met<'a>, Refused<'a>>
     ensures first { before ≡ None → result ≡ Err refused.entry }
-    ensures later { IfSome before (λ all. result ≡ Ok (all, unread, Some refused.entry)) }
+    ensures later { IfSome before (λ all. result ≡ Ok (all, lacks, Some refused.entry)) }
 {
     match before {
         None => Err(refused),
-        Some(all) => Ok((all, unread, Some(refused))),
+        Some(all) => Ok((all, lacks, Some(refused))),
     }
 }
 
@@ -153,7 +154,10 @@ impl<'h, 'a, R: Net<Listener = TcpListener, Stream = TcpStream>> Meeting<'h, 'a,
             mut site,
             unreadable,
         } = sited;
-        let unread = unreadable.len() as u64;
+        let mut lacks = Lacks {
+            unread: unreadable.len() as u64,
+            missing: 0,
+        };
         let Meeting {
             rt,
             net,
@@ -165,26 +169,27 @@ impl<'h, 'a, R: Net<Listener = TcpListener, Stream = TcpStream>> Meeting<'h, 'a,
         for _ in 0..MOST_EXCHANGES {
             let wire = match wire_of(net, exchanging, made.take()) {
                 Ok(wire) => wire,
-                Err(refused) => return met_before(before, unread, refused),
+                Err(refused) => return met_before(before, lacks, refused),
             };
             let Behind {
                 site: next,
-                shelf,
+                mut shelf,
                 ended,
             } = exchange_over(rt, exchanging.role, &wire, site, store);
+            lacks.missing = keep_held(rt, exchanging.file, &mut shelf);
             let last = match told_of(exchanging, wire.is_silent(), ended) {
                 Ok(last) => last,
-                Err(refused) => return met_before(before, unread, refused),
+                Err(refused) => return met_before(before, lacks, refused),
             };
             all = all.with_last(last);
             if !all.is_followed(last) {
-                return Ok((all, unread, None));
+                return Ok((all, lacks, None));
             }
             before = Some(all);
             site = next;
             store = shelf;
         }
-        Ok((all, unread, None))
+        Ok((all, lacks, None))
     }
 }
 
@@ -221,7 +226,8 @@ fn meet_in_folder<'a, R: Net<Listener = TcpListener, Stream = TcpStream> + Threa
 /// Refusals come in this order: the store, the site, the connection, the exchange. Where the file
 /// is not there the connection comes first, so that no file is made where nobody answers. At a
 /// terminal it says meanwhile how far it is. On standard error it says in the end whether both
-/// sides agreed. What can't be read here is said and left out, and it then ends with a fault.
+/// sides agreed. What can't be read here is said and left out, and it then ends with a fault, as
+/// where operations are missing still.
 pub fn exchange<'a, R: Net<Listener = TcpListener, Stream = TcpStream> + Threads + Sync>(
     rt: &HostRuntime,
     net: &R,
@@ -238,14 +244,14 @@ pub fn exchange<'a, R: Net<Listener = TcpListener, Stream = TcpStream> + Threads
         exchanging,
         connected,
     };
-    let (ended, unread, broke) = if is_folder(rt, file) {
+    let (ended, lacks, broke) = if is_folder(rt, file) {
         meet_in_folder(rt, file, meeting)?
     } else {
         on_shelf(rt, file, meeting)??
     };
     say_agreement(rt, ended);
     let text = about(file, lines_of_exchange(rt.alloc(), ended))?;
-    let Done { text, behind } = done_without(rt, file, text, unread);
+    let Done { text, behind } = done_without(rt, file, text, lacks);
     match broke {
         Some(broke) => Ok(Done {
             text,

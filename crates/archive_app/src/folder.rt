@@ -141,24 +141,10 @@ fn refusal_of<'a>(rt: &HostRuntime, folder: &'a str) -> Option<Refused<'a>> {
     None
 }
 
-/// Removes the records beside a log, which tell of images that its data sets may lack.
-fn forget_records<'a>(rt: &HostRuntime, folder: &'a str) -> Result<(), Refused<'a>> {
-    let path = match within(rt, folder, "records") {
-        Ok(path) => path,
-        Err(_refused) => return Err(Refused::of(folder, CommandFault::Shelf(ShelfFault::Memory))),
-    };
-    match fs::remove_file(rt, path.as_str()) {
-        Err(error) if error.kind() != ErrorKind::NotFound => {
-            Err(refused_for(folder, file_cause_of(error.kind())))
-        }
-        _ => Ok(()),
-    }
-}
-
 /// Opens the log in a folder, of which nothing is supposed. The folder is made where it is not
 /// there; one that has something else in it, or heads without data sets, is refused before anything
 /// is made. What is of the older form is renewed, and data sets that end too soon are lengthened,
-/// which is said: then its records go, so that each image is read.
+/// once its records are gone, so that each image is read: both are said.
 pub fn log_in<'a>(rt: &HostRuntime, folder: &'a str) -> Result<FolderLog, Refused<'a>> {
     if let Some(refused) = refusal_of(rt, folder) {
         return Err(refused);
@@ -183,7 +169,6 @@ pub fn log_in<'a>(rt: &HostRuntime, folder: &'a str) -> Result<FolderLog, Refuse
             }
             if lacked_bodies {
                 note(rt, folder, Note::ShortBodies);
-                forget_records(rt, folder)?;
             }
             Ok(log)
         }

@@ -10,6 +10,7 @@ mod exchanging;
 mod file;
 mod folder;
 mod gauges;
+mod held;
 mod hub;
 mod listening;
 mod log_tail;

@@ -6,8 +6,9 @@ ghost use Rattle.shelved_site.specs.Readable.{Shown};
 
 use crate::file::{OnStore, on_file};
 use crate::folder::{Starting, is_absent};
+use crate::held::missing_in;
 use crate::output::{CommandFault, FileCause, lines_of_move};
-use crate::refused::{Done, Refused, about, done_without};
+use crate::refused::{Done, Lacks, Refused, about, done_without};
 use crate::viewing::view_file;
 use command_words::Moving;
 use op_shelf::{ShelfFault, StoreCause};
@@ -66,11 +67,13 @@ struct Opening<'h, 'a> {
 }
 
 impl<'h, 'a> OnStore for Opening<'h, 'a> {
-    type Told = Result<Moved, Refused<'a>>;
+    type Told = Result<(Moved, u64), Refused<'a>>;
 
-    fn on<S: Store + Drop + Send>(self, from: S) -> Result<Moved, Refused<'a>> {
+    fn on<S: Store + Drop + Send>(self, mut from: S) -> Result<(Moved, u64), Refused<'a>> {
         let Opening { rt, moving } = self;
-        on_file(rt, moving.to, Filling { rt, moving, from })?
+        let missing = missing_in(rt, moving.from, &mut from);
+        let moved = on_file(rt, moving.to, Filling { rt, moving, from })??;
+        Ok((moved, missing))
     }
 }
 
@@ -79,13 +82,14 @@ impl<'h, 'a> OnStore for Opening<'h, 'a> {
 /// older programs becomes that of today, and is refused where it is not there. Refusals come in
 /// this order: the first, the second; behind them that of a read or of a put, where the second has
 /// what it had and some of the first. What can't be read of the first is said and left out, and it
-/// then ends with a fault.
+/// then ends with a fault, as where operations are missing from it.
 pub fn move_operations<'a>(rt: &HostRuntime, moving: Moving<'a>) -> Result<Done<'a>, Refused<'a>> {
     if is_absent(rt, moving.from) {
         let fault = CommandFault::Shelf(ShelfFault::Store(StoreCause::Other));
         return Err(Refused::file(moving.from, fault, FileCause::Absent));
     }
-    let moved = view_file(rt, moving.from, Opening { rt, moving })??;
+    let (moved, missing) = view_file(rt, moving.from, Opening { rt, moving })??;
     let lines = about(moving.to, lines_of_move(rt.alloc(), moved))?;
-    Ok(done_without(rt, moving.from, lines, moved.unread))
+    let unread = moved.unread;
+    Ok(done_without(rt, moving.from, lines, Lacks { unread, missing }))
 }

@@ -2,6 +2,7 @@
 
 mod cause;
 mod ending;
+mod held;
 mod lines;
 mod notes;
 mod unread;
@@ -12,6 +13,7 @@ pub use cause::{
     listen_cause_of, place_of, reach_cause_of, words_of,
 };
 pub use ending::{CommandFault, Ending, ending_of, status_of_refusal};
+pub use held::{held_in, is_more, missing_of};
 pub(crate) use lines::put_count;
 pub use lines::{line_of_stamp, lines_of, lines_of_exchange, lines_of_move};
 pub use notes::{Note, is_other, lacks_log, names_folder, words_of_note};

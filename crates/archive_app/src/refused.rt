@@ -108,23 +108,35 @@ pub struct Done<'a> {
     pub behind: Option<Refused<'a>>,
 }
 
-/// The fault with which a command ends that was done without so many operations of a file.
-pub fn ended_without<'a>(file: &'a str, unread: u64) -> Option<Refused<'a>>
-    ensures { IsNone result ↔ (unread ≡ 0) }
-{
-    if unread == 0 {
-        return None;
-    }
-    let fault = CommandFault::Shelf(ShelfFault::BadRow);
-    Some(Refused::file(file, fault, FileCause::Unreadable))
+/// What a command was done without: so many operations can't be read, and so many more are missing
+/// that the archive has held.
+#[derive(Clone, Copy)]
+pub struct Lacks {
+    pub unread: u64,
+    pub missing: u64,
 }
 
-/// A command that was done without so many operations of a file, which is said.
-pub fn done_without<'a>(rt: &HostRuntime, file: &'a str, text: Vec<u8>, unread: u64) -> Done<'a> {
-    note_count(rt, file, unread);
+/// The fault with which a command ends that was done without some operations of a file.
+pub fn ended_without<'a>(file: &'a str, lacks: Lacks) -> Option<Refused<'a>>
+    ensures { IsNone result ↔ ((lacks.unread ≡ 0) × (lacks.missing ≡ 0)) }
+{
+    let fault = CommandFault::Shelf(ShelfFault::BadRow);
+    if lacks.missing != 0 {
+        let cause = FileCause::Missing(lacks.missing as usize);
+        return Some(Refused::file(file, fault, cause));
+    }
+    if lacks.unread != 0 {
+        return Some(Refused::file(file, fault, FileCause::Unreadable));
+    }
+    None
+}
+
+/// A command that was done without some operations of a file, which is said.
+pub fn done_without<'a>(rt: &HostRuntime, file: &'a str, text: Vec<u8>, lacks: Lacks) -> Done<'a> {
+    note_count(rt, file, lacks.unread);
     Done {
         text,
-        behind: ended_without(file, unread),
+        behind: ended_without(file, lacks),
     }
 }
 

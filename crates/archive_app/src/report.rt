@@ -2,8 +2,9 @@
 
 use crate::file::OnStore;
 use crate::folder::{Starting, is_absent, is_folder, site_to_view};
+use crate::held::missing_in;
 use crate::output::{CommandFault, FileCause, Note, lines_of};
-use crate::refused::{Done, Refused, about, done_without, note};
+use crate::refused::{Done, Lacks, Refused, about, done_without, note};
 use crate::viewing::view_file;
 use command_words::Reporting;
 use op_shelf::{ShelfFault, StoreCause};
@@ -13,13 +14,14 @@ use std::alloc::{AllocError, Global};
 use std::rt::HostRuntime;
 use std::thread::Threads;
 
-/// What is told of an archive, and of how many of its operations it is told without.
-type Partly<T> = (T, u64);
+/// What is told of an archive, and without what.
+type Partly<T> = (T, Lacks);
 
 /// The report of a store.
 #[derive(Drop)]
 struct Counting<'h> {
-    alloc: Global,
+    rt: &'h HostRuntime,
+    file: &'h str,
     starting: Starting<'h>,
 }
 
@@ -27,10 +29,11 @@ impl<'h> OnStore for Counting<'h> {
     type Told = Result<Partly<Report>, ShelvedFault>;
 
     fn on<S: Store + Drop + Send>(self, mut store: S) -> Result<Partly<Report>, ShelvedFault> {
-        match report_on(self.alloc, &mut store, &self.starting) {
-            Ok((report, unreadable)) => Ok((report, unreadable.len() as u64)),
-            Err(fault) => Err(fault),
-        }
+        let Counting { rt, file, starting } = self;
+        let missing = missing_in(rt, file, &mut store);
+        let (report, unreadable) = report_on(rt.alloc(), &mut store, &starting)?;
+        let unread = unreadable.len() as u64;
+        Ok((report, Lacks { unread, missing }))
     }
 }
 
@@ -41,8 +44,10 @@ fn report_in_folder<'a, T: Threads + Sync>(
     folder: &'a str,
 ) -> Result<Partly<Report>, Refused<'a>> {
     let (sited, mut log) = site_to_view(rt, threads, folder)?;
+    let missing = missing_in(rt, folder, &mut log);
     let report = about(folder, report_with(rt.alloc(), &mut log, &sited.site))?;
-    Ok((report, sited.unreadable.len() as u64))
+    let unread = sited.unreadable.len() as u64;
+    Ok((report, Lacks { unread, missing }))
 }
 
 fn report_in<'a, T: Threads + Sync>(
@@ -54,7 +59,8 @@ fn report_in<'a, T: Threads + Sync>(
         return report_in_folder(rt, threads, file);
     }
     let counting = Counting {
-        alloc: rt.alloc(),
+        rt,
+        file,
         starting: Starting::begins(rt, file),
     };
     about(file, view_file(rt, file, counting)?)
@@ -67,18 +73,19 @@ fn counts<'a, T: Threads + Sync>(
     file: &'a str,
     is_fingerprinted: bool,
 ) -> Result<Partly<Vec<u8>>, Refused<'a>> {
-    let (report, unread) = report_in(rt, threads, file)?;
+    let (report, lacks) = report_in(rt, threads, file)?;
     if is_folder(rt, file) {
         note(rt, file, Note::InLog);
     }
     let lines = lines_of(rt.alloc(), &report, is_fingerprinted);
-    Ok((about(file, lines)?, unread))
+    Ok((about(file, lines)?, lacks))
 }
 
 /// A table of a store.
 #[derive(Drop)]
 struct Telling<'h> {
-    alloc: Global,
+    rt: &'h HostRuntime,
+    file: &'h str,
     table: Table,
     starting: Starting<'h>,
 }
@@ -87,10 +94,16 @@ impl<'h> OnStore for Telling<'h> {
     type Told = Result<Partly<Vec<Row>>, ShelvedFault>;
 
     fn on<S: Store + Drop + Send>(self, mut store: S) -> Result<Partly<Vec<Row>>, ShelvedFault> {
-        match table_on(self.alloc, &mut store, self.table, &self.starting) {
-            Ok((rows, unreadable)) => Ok((rows, unreadable.len() as u64)),
-            Err(fault) => Err(fault),
-        }
+        let Telling {
+            rt,
+            file,
+            table,
+            starting,
+        } = self;
+        let missing = missing_in(rt, file, &mut store);
+        let (rows, unreadable) = table_on(rt.alloc(), &mut store, table, &starting)?;
+        let unread = unreadable.len() as u64;
+        Ok((rows, Lacks { unread, missing }))
     }
 }
 
@@ -101,9 +114,11 @@ fn rows_in_folder<'a, T: Threads + Sync>(
     folder: &'a str,
     table: Table,
 ) -> Result<Partly<Vec<Row>>, Refused<'a>> {
-    let (sited, _log) = site_to_view(rt, threads, folder)?;
+    let (sited, mut log) = site_to_view(rt, threads, folder)?;
+    let missing = missing_in(rt, folder, &mut log);
     let rows = about(folder, rows_of_table(rt.alloc(), &sited.site, table))?;
-    Ok((rows, sited.unreadable.len() as u64))
+    let unread = sited.unreadable.len() as u64;
+    Ok((rows, Lacks { unread, missing }))
 }
 
 fn rows_in<'a, T: Threads + Sync>(
@@ -116,7 +131,8 @@ fn rows_in<'a, T: Threads + Sync>(
         return rows_in_folder(rt, threads, file, table);
     }
     let telling = Telling {
-        alloc: rt.alloc(),
+        rt,
+        file,
         table,
         starting: Starting::begins(rt, file),
     };
@@ -144,14 +160,14 @@ fn told<'a, T: Threads + Sync>(
     table: Table,
     is_separated: bool,
 ) -> Result<Partly<Vec<u8>>, Refused<'a>> {
-    let (rows, unread) = rows_in(rt, threads, file, table)?;
+    let (rows, lacks) = rows_in(rt, threads, file, table)?;
     let text = text_of(rt.alloc(), table, rows.as_slice(), is_separated);
-    Ok((about(file, text)?, unread))
+    Ok((about(file, text)?, lacks))
 }
 
 /// The report of the operations in a file, of which nothing is changed, but that a table of older
 /// programs becomes that of today. One that is not there is refused, and is not made. It is made
-/// without those that can't be read, and then ends with a fault.
+/// without those that can't be read or are missing, and then ends with a fault.
 pub fn report<'a, T: Threads + Sync>(
     rt: &HostRuntime,
     threads: &T,
@@ -167,9 +183,9 @@ pub fn report<'a, T: Threads + Sync>(
         let fault = CommandFault::Shelf(ShelfFault::Store(StoreCause::Other));
         return Err(Refused::file(file, fault, FileCause::Absent));
     }
-    let (text, unread) = match table {
+    let (text, lacks) = match table {
         None => counts(rt, threads, file, fingerprint)?,
         Some(table) => told(rt, threads, file, table, separated)?,
     };
-    Ok(done_without(rt, file, text, unread))
+    Ok(done_without(rt, file, text, lacks))
 }

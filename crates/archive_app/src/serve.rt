@@ -11,6 +11,7 @@ use crate::ending::ended_with_input;
 use crate::file::{adopted, refused, see_kind};
 use crate::folder::{is_folder, log_in, records_in};
 use crate::gauges::gauges_of;
+use crate::held::{Counted, counted_in, held_open, keep_held, refused_for_missing};
 use crate::hub::{Count, closed_behind, hub_of, hub_of_log};
 use crate::listening::{Listening, listen_first, listen_to, say_where};
 use crate::output::{CommandFault, Note};
@@ -81,11 +82,13 @@ fn bytes_of(mebibytes: u32) -> usize
     mebibytes as usize * 1_048_576
 }
 
-/// What is known of a store when it is served: the contents that are told, and what can't be read.
+/// What is known of a store when it is served: the contents that are told, what can't be read, and
+/// what is counted.
 #[derive(Clone, Copy)]
 struct Known<'a> {
     told: &'a [RecordedContent],
     unreadable: &'a [Unreadable],
+    counted: Counted,
 }
 
 /// Serves in threads until each worker has accepted what it may and each exchange was served, and
@@ -187,10 +190,13 @@ fn serve_site<
 {
     let (opened, listening) = site;
     let ended = ending_of(host, rt, &listening, serving)?;
+    let unread = known.unreadable.len();
+    let held = held_open(host, serving.file, known.counted, unread);
     let manner = Manner {
         ending: ended.as_deref(),
         idle: wait_of(serving.idle),
         recent: bytes_of(serving.cache),
+        held: held.as_ref(),
         is_verbose: serving.is_verbose,
     };
     serve_hub::<Brand, R, S>(host, rt, store, known, opened, &listening, serving, manner)
@@ -222,6 +228,7 @@ fn serve_store<
     serving: &Serving<'a>,
     store: &mut S,
     told: &[RecordedContent],
+    counted: Counted,
     begun: Result<Begun<&R>, Refused<'a>>,
     listening: Option<Listening>,
 ) -> Printed<Result<Count, Refused<'a>>>
@@ -236,6 +243,7 @@ fn serve_store<
     let known = Known {
         told,
         unreadable: unreadable.as_slice(),
+        counted,
     };
     let listening = match listening_of(host, rt, serving, listening) {
         Ok(listening) => listening,
@@ -244,6 +252,24 @@ fn serve_store<
     say_where(rt, &listening, serving)?;
     let served = serve_site(host, rt, store, known, (opened, listening), serving);
     Ok(about(begun_at(serving, &served), served))
+}
+
+/// What is counted of a store. One from which operations are missing is refused, unless it is to be
+/// served without them: then this is said.
+fn guarded<'a, S: Store>(
+    host: &HostRuntime,
+    serving: &Serving<'a>,
+    store: &mut S,
+) -> Result<Counted, Refused<'a>> {
+    let counted = counted_in(host, serving.file, store);
+    if counted.missing != 0 {
+        let refused = refused_for_missing(serving.file, counted.missing);
+        if !serving.shows_without {
+            return Err(refused);
+        }
+        refused.tell(host);
+    }
+    Ok(counted)
 }
 
 /// What was served of the operations on the shelf over a connection.
@@ -268,8 +294,25 @@ fn serve_database<
 {
     match adopted(host, serving.file, database) {
         Ok(mut shelf) => {
+            let counted = match guarded(host, serving, &mut shelf) {
+                Ok(counted) => counted,
+                Err(refused) => return Ok(Err(refused)),
+            };
             let begun = hub_of(host, rt, serving, &mut shelf);
-            serve_store(host, rt, serving, &mut shelf, &[], begun, listening)
+            let served = serve_store(
+                host,
+                rt,
+                serving,
+                &mut shelf,
+                &[],
+                counted,
+                begun,
+                listening,
+            );
+            if let Ok(Ok(_served)) = &served {
+                keep_held(host, serving.file, &mut shelf);
+            }
+            served
         }
         Err(fault) => Ok(Err(fault)),
     }
@@ -329,8 +372,18 @@ fn serve_log<
             } = records_in(host, serving.file);
             let told = contents.as_slice();
             let mut kept = KeptLog::beside(host.alloc(), log, records);
+            let counted = match guarded(host, serving, &mut kept) {
+                Ok(counted) => counted,
+                Err(refused) => return Ok(Err(refused)),
+            };
             let begun = hub_of_log(host, rt, serving, &mut kept, told);
-            serve_store(host, rt, serving, &mut kept, told, begun, listening)
+            let served = serve_store(
+                host, rt, serving, &mut kept, told, counted, begun, listening,
+            );
+            if let Ok(Ok(_served)) = &served {
+                keep_held(host, serving.file, &mut kept);
+            }
+            served
         }
         Err(fault) => Ok(Err(fault)),
     }

@@ -4,6 +4,7 @@ ghost use Rattle.std.specs.Prelude.{IfOk, OnErr, OnOk};
 
 use crate::file::OnStore;
 use crate::folder::{is_absent, is_folder};
+use crate::held::{missing_in, refused_for_missing};
 use crate::log_tail::{Tail, refused_for_frames, tail_beside};
 use crate::output::{CommandFault, FileCause, ended_of_verify, lines_of_verify};
 use crate::progress::Progress;
@@ -35,17 +36,19 @@ struct Verification<'h, 'a> {
 }
 
 impl<'h, 'a> OnStore for Verification<'h, 'a> {
-    type Told = Result<Verified, ShelfFault>;
+    type Told = Result<(Verified, u64), ShelfFault>;
 
-    fn on<S: Store + Drop + Send>(self, mut store: S) -> Result<Verified, ShelfFault> {
+    fn on<S: Store + Drop + Send>(self, mut store: S) -> Result<(Verified, u64), ShelfFault> {
         let progress = Progress::of(self.rt);
         progress.begins(self.file);
-        tested(&mut store, &progress)
+        let missing = missing_in(self.rt, self.file, &mut store);
+        Ok((tested(&mut store, &progress)?, missing))
     }
 }
 
-/// What the operations in a file are tested to be. One that is not there is refused.
-fn verified<'a>(rt: &HostRuntime, file: &'a str) -> Result<Verified, Refused<'a>> {
+/// What the operations in a file are tested to be, and how many are missing. A file that is not
+/// there is refused.
+fn verified<'a>(rt: &HostRuntime, file: &'a str) -> Result<(Verified, u64), Refused<'a>> {
     if is_absent(rt, file) {
         let fault = CommandFault::Shelf(ShelfFault::Store(StoreCause::Other));
         return Err(Refused::file(file, fault, FileCause::Absent));
@@ -57,11 +60,11 @@ fn verified<'a>(rt: &HostRuntime, file: &'a str) -> Result<Verified, Refused<'a>
 }
 
 /// Tests each operation in a file, of which nothing is changed, but that a table of older programs
-/// becomes that of today, and prints which are not those of their digests. Where one is not, or the
-/// log beside the file is damaged, it ends with a fault behind that.
+/// becomes that of today, and prints which are not those of their digests. Where one is not, some
+/// are missing or the log beside the file is damaged, it ends with a fault behind that.
 pub fn verify<'a>(rt: &HostRuntime, verifying: Verifying<'a>) -> Printed<Result<(), Refused<'a>>> {
     let file = verifying.file;
-    let verified = match verified(rt, file) {
+    let (verified, missing) = match verified(rt, file) {
         Ok(verified) => verified,
         Err(refused) => return Ok(Err(refused)),
     };
@@ -71,6 +74,9 @@ pub fn verify<'a>(rt: &HostRuntime, verifying: Verifying<'a>) -> Printed<Result<
     }
     if !is_folder(rt, file) && tail_beside(rt, file) == Tail::Lost {
         return Ok(Err(refused_for_frames(file)));
+    }
+    if missing != 0 {
+        return Ok(Err(refused_for_missing(file, missing)));
     }
     Ok(about(file, ended_of_verify(&verified)))
 }

@@ -3,7 +3,7 @@ use Rattle.std.specs.Prelude.{◌≡◌, ℕ, zero, suc, Bool, true, false, List
 use Rattle.std.specs.List.{flat_map}
 use Rattle.std.specs.declared.time.Duration.{Duration}
 
--- What is done with a peer: it is called; or so long is waited, and then somebody serves or nobody.
+-- What is done with a peer: it is called; or so long is waited at most, and then somebody serves or nobody.
 pub data Turn : Type 0 where
   Calls : Turn
   Waits : Duration → Bool → Turn
@@ -22,7 +22,7 @@ abbrev pub rounds : Duration → ℕ → List Turn
 rounds every zero = []
 rounds every (suc count) = rounds every count ++ round every true
 
--- Whatever came of a call, so long is waited behind it, and then the peer is called again, as long as somebody serves.
+-- Whatever came of a call, so long is waited behind it at most, and then the peer is called again, as long as somebody serves.
 abbrev pub CallsAgain : Duration → Option (List Turn) → Option (List Turn) → Type 0
 CallsAgain every before after = (calls : ℕ) × Went before after (rounds every calls ++ round every false)
 

@@ -7,6 +7,7 @@ pub mod Done
 pub mod Entering
 pub mod Fault
 pub mod Health
+pub mod Held
 pub mod Journal
 pub mod Refusing
 pub mod Serving

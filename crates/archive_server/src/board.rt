@@ -116,6 +116,11 @@ impl Board {
         self.noted(rt, address, not_reached(self.second(rt)));
     }
 
+    /// How many operations exchanges have brought that were new.
+    pub fn brought<S: Wait>(&self, rt: &S) -> u64 {
+        self.meters.lock(rt).taken
+    }
+
     /// What the server knows of itself now, which takes so much of its machine and of which the
     /// shelf refuses for this reason, if it does. Where memory is refused nothing stands on the
     /// page of its site.

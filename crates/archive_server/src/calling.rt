@@ -1,4 +1,4 @@
-//! When a thread goes on: behind each call of a peer, or each accept, so long is waited.
+//! When a thread goes on: behind each call of a peer, or each accept, so long is waited at most.
 
 ghost use Rattle.std.specs.Prelude.{[], ◌∷◌, List, Option};
 ghost use Rattle.archive_server.specs.Calling.{Turn, Calls as ACall, Waits as AWait, Went};
@@ -14,7 +14,8 @@ pub(crate) trait Pauses {
     fn note(&mut self)
         ensures turned { Went (turns self.old) (turns self.new) (ACall ∷ []) };
 
-    /// Waits so long, or until nobody serves any more, and says whether somebody still does.
+    /// Waits at most so long, and no longer than somebody serves, and says whether somebody still
+    /// does.
     fn is_served_after(&mut self, time: Duration) -> bool
         ensures turned { Went (turns self.old) (turns self.new) (AWait time result ∷ []) };
 }

@@ -1,6 +1,6 @@
 //! The threads of exchanges: they accept so many on a listener of their own.
 
-ghost use Rattle.std.specs.Prelude.{◌≡◌, ◌+◌, ◌-◌, ◌<◌, ◌≤◌, ◌^◌, ◌⊎◌, IsSome, true};
+ghost use Rattle.std.specs.Prelude.{◌≡◌, ◌+◌, ◌-◌, ◌<◌, ◌≤◌, ◌^◌, ◌⊎◌, IfErr, IfOk, IsSome, true};
 ghost use Rattle.command_words.specs.Networks.{may_come};
 ghost use Rattle.archive_server.specs.Serving.{HasGoneOn};
 
@@ -33,6 +33,17 @@ pub struct Exchanging<'a> {
     pub rounds: u64,
     /// How many are served at once, each with a pass of its own.
     pub workers: u16,
+}
+
+/// How many operations an exchange brought that were new, as far as it is known.
+fn taken_in(ended: Result<Ended, ExchangeFault>) -> u64
+    ensures ok { IfOk ended (λ ended. result ≡ ended.taken) }
+    ensures err { IfErr ended (λ _. result ≡ 0) }
+{
+    match ended {
+        Ok(ended) => ended.taken,
+        Err(_fault) => 0,
+    }
 }
 
 /// An exchange with a peer that this server called. Behind it the peer may read what was sent last.
@@ -68,6 +79,7 @@ pub(crate) fn exchange_over<
         &mut writer,
         clerk,
     );
+    hall.manner.add_held(rt, alloc, taken_in(ended));
     tell_exchange(rt, hall.manner, peer, wire, Role::Caller, ended);
     wire.part(rt);
     hall.board.freed(rt);
@@ -100,6 +112,7 @@ fn with_peer<'x, H: HubName, T: Shows<H>, R: Wait + Drop, S: Wait + Clock + Log,
         Asking::new(rt, alloc, to, &hall.health, &hall.recent, &hall.hashers),
     );
     let (done, ended) = done.with_exchange(&hall.archive, &shelf, &mut reader, &mut writer);
+    hall.manner.add_held(rt, alloc, taken_in(ended));
     tell_exchange(rt, hall.manner, whence, &wire, Role::Callee, ended);
     hall.board.served(rt, ended);
     wire.part(rt);

@@ -2,6 +2,9 @@
 
 ghost use Rattle.std.specs.Prelude.{IsTrue, IsSome};
 
+use crate::held::Held;
+use std::alloc::Global;
+use std::sync::Wait;
 use std::sync::atomic::{AtomicBool, Ordering};
 use std::time::Duration;
 
@@ -20,12 +23,21 @@ pub struct Manner<'a> {
     /// How many bytes of memory the operations may hold that were put or loaded last: they are not
     /// read again while they are remembered.
     pub recent: usize,
+    /// The file that tells how many operations the site has held, where that is kept.
+    pub held: Option<&'a Held>,
     /// Whether what is served is told on standard error: a line for each association, exchange and
     /// connection for a page or to the desk, and for each peer or store that is not.
     pub is_verbose: bool,
 }
 
 impl<'a> Manner<'a> {
+    /// The site holds so many operations more.
+    pub(crate) fn add_held<S: Wait>(self, rt: &S, alloc: Global, more: u64) {
+        if let Some(held) = self.held {
+            held.add(rt, alloc, more);
+        }
+    }
+
     /// Whether somebody has ended the server.
     pub(crate) fn is_ended(self) -> bool
         ensures asked { IsTrue result → IsSome self.entry.ending }

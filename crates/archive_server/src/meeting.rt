@@ -1,9 +1,11 @@
 //! The threads that call peers: each exchanges with one, again and again, with a pass of its own.
 
-ghost use Rattle.std.specs.Prelude.{None};
+ghost use Rattle.std.specs.Prelude.{◌≡◌, ◌≢◌, ◌⊎◌, ◌↔◌, IsTrue, None};
+ghost use Rattle.core.specs.Duration.{as_nanos};
 ghost use Rattle.archive_server.specs.Calling.{CallsAgain};
 ghost use Rattle.archive_server.specs.Serving.{HasGoneOn};
 
+use crate::board::Board;
 use crate::calling::Pauses;
 use crate::clerk::Clerk;
 use crate::done::Done;
@@ -20,7 +22,8 @@ use std::net::{Net, TcpListener, TcpStream};
 use std::sync::Wait;
 use std::time::{Clock, Duration};
 
-/// A site that serves exchanges, and how long the server waits before it calls it again.
+/// A site that serves exchanges, and how long the server waits before it calls it again, unless an
+/// exchange with any peer brings something meanwhile.
 #[derive(Clone, Copy)]
 pub struct Peer<'a> {
     /// An IPv4 address, a colon and a port.
@@ -78,6 +81,54 @@ impl<'a, S: Wait + Clock> Pauses for Still<'a, S> {
     }
 }
 
+/// How long is waited at most between looks at what exchanges brought.
+fn turn() -> Duration {
+    Duration::from_secs(1)
+}
+
+/// Whether a peer is called again: its pause is over, or exchanges brought something since it was
+/// called.
+fn is_due(left: Duration, seen: u64, brought: u64) -> bool
+    ensures { IsTrue result ↔ ((as_nanos left ≡ 0) ⊎ (seen ≢ brought)) }
+{
+    left.is_zero() || seen != brought
+}
+
+/// The pauses of a thread that calls a peer: what exchanges bring ends them, so that each peer
+/// hears of it at once. Between two calls a turn is waited all the same.
+#[derive(Drop)]
+struct Stirred<'a, S: Wait + Clock> {
+    rt: &'a S,
+    ended: &'a Receiver<()>,
+    board: &'a Board,
+    /// How many operations exchanges had brought before the last call.
+    seen: u64,
+}
+
+impl<S: Wait + Clock> Pauses for Stirred<'_, S> {
+    ghost turns = { λ _. None };
+
+    fn note(&mut self) {}
+
+    fn is_served_after(&mut self, time: Duration) -> bool {
+        let mut left = time;
+        for _ in self.rt.forever() {
+            let turn = left.min(turn());
+            match self.ended.recv_timeout(self.rt, turn) {
+                Err(RecvTimeoutError::Timeout) => {}
+                Err(RecvTimeoutError::Disconnected) | Ok(()) => return false,
+            }
+            left = left.saturating_sub(turn);
+            let brought = self.board.brought(self.rt);
+            if is_due(left, self.seen, brought) {
+                self.seen = brought;
+                return true;
+            }
+        }
+        unreachable!()
+    }
+}
+
 /// Calls a peer again and again, as long as somebody serves.
 fn call_again<
     H: HubName,
@@ -125,7 +176,19 @@ pub(crate) fn meet_all<
     ensures onward { HasGoneOn clerk result.clerk }
 {
     let rt = hall.archive.rt;
-    let mut still = Still { rt, ended: &ended };
-    let onward = call_again(hall, peer.address, peer.every, &reach.to, &mut still, clerk);
+    let mut pauses = Stirred {
+        rt,
+        ended: &ended,
+        board: &hall.board,
+        seen: hall.board.brought(rt),
+    };
+    let onward = call_again(
+        hall,
+        peer.address,
+        peer.every,
+        &reach.to,
+        &mut pauses,
+        clerk,
+    );
     Done::nothing(onward, None)
 }

@@ -102,6 +102,7 @@ fn with_peer<
     tally.answered(writer.rows());
     hall.board
         .attended(rt, ended, finish.rejection.is_some(), tally);
+    hall.manner.add_held(rt, hall.archive.alloc, tally.new);
     tell_association(rt, hall.manner, whence, wire, &front, tally, finish);
     done
 }

@@ -118,6 +118,7 @@ fn serve<
         ending: None,
         idle: None,
         recent: 0,
+        held: None,
         is_verbose: false,
     };
     let duties = Duties {

@@ -1,6 +1,7 @@
 -- The server that the words behind `serve` ask for.
-use Rattle.std.specs.Prelude.{ℕ, ◌≡◌, ◌==◌, List, [], ◌∷◌, Option, None, Some, map, option_map, is_some}
+use Rattle.std.specs.Prelude.{ℕ, ◌≡◌, ◌==◌, ◌<◌, ◌⊎◌, nat_eq, length, IsTrue, List, [], ◌∷◌, Option, None, Some, map, option_map, is_some}
 use Rattle.std.specs.Prelude.{if◌then◌else◌, unwrap_or, codes}
+use Rattle.std.specs.List.{starts_with}
 use Rattle.clap.specs.Walk.{Row}
 use Rattle.command_words.specs.Networks.{IsNetworkText}
 use Rattle.command_words.specs.declared.DeskAt.{DeskAt}
@@ -64,6 +65,11 @@ pub record HasLists (rows : List Row) (serving : Serving) : Type 0 where
       ≡ all_at rows (codes "quality-calling")
   pub audit_callers : map (λ caller. caller.now) serving.audit_callers.items
       ≡ all_at rows (codes "audit-calling")
+
+-- No exchange comes in, or those that do are of this machine, or of networks that are named.
+abbrev pub IsGuarded : Serving → Type 0
+IsGuarded serving = (serving.rounds ≡ 0) ⊎ (0 < length serving.exchange_allowed.items)
+    ⊎ IsTrue (starts_with nat_eq serving.exchange.now (codes "127."))
 
 -- a server is what the words behind `serve` ask for
 pub record ServesAs (rows : List Row) (serving : Serving) : Type 0 where

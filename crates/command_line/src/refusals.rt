@@ -58,6 +58,11 @@ pub(crate) const BAD_SITE: Refusal = Refusal {
     text: "--desk wants --site, a number from 1 to 65535",
 };
 
+pub(crate) const OPEN_EXCHANGE: Refusal = Refusal {
+    kind: ErrorKind::InvalidValue,
+    text: "--exchange wants --exchange-allow, unless its address begins with 127.",
+};
+
 pub(crate) const WITHOUT_COMMAND: Refusal = Refusal {
     kind: ErrorKind::MissingSubcommand,
     text: "a command has to be named",

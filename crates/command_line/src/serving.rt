@@ -5,11 +5,11 @@ ghost use Rattle.std.specs.Prelude.{OnOk, vec_len, map};
 ghost use Rattle.command_words.specs.Words.{HasPlaces, HasDeskSite, threads_at};
 ghost use Rattle.command_line.specs.Found.{rows_in, all_at};
 ghost use Rattle.command_line.specs.Serving.{rounds_at, exchange_workers_at, idle_at, IsDeskAt};
-ghost use Rattle.command_line.specs.Serving.{AreNetworks, ServesBy, HasLists, ServesAs};
+ghost use Rattle.command_line.specs.Serving.{AreNetworks, IsGuarded, ServesBy, HasLists, ServesAs};
 
 use crate::found::{given, has, number, short, text, texts};
 use crate::reading::{Unread, tested};
-use crate::refusals::{BAD_NETWORK, BAD_SITE, Refusal, TOO_MANY};
+use crate::refusals::{BAD_NETWORK, BAD_SITE, OPEN_EXCHANGE, Refusal, TOO_MANY};
 use crate::serve::SERVE_ROWS;
 use clap::ArgMatches;
 use command_words::{DeskAt, Network, Serving, read_network};
@@ -99,12 +99,31 @@ fn has_desk_site(serving: &Serving<'_>) -> bool
     }
 }
 
-/// Why there is no such server, by its numbers.
+/// What the addresses of this machine begin with, which no other reaches (RFC 1122, section
+/// 3.2.1.3).
+const LOOPBACK: &[u8] = b"127.";
+
+/// Whether those who may exchange are of this machine, or of networks that are named: who exchanges
+/// hears every image, and may correct and reject.
+fn is_guarded(serving: &Serving<'_>) -> bool
+    ensures { IsTrue result ↔ IsGuarded serving.now }
+{
+    serving.rounds == 0
+        || !serving.exchange_allowed.is_empty()
+        || serving.exchange.as_bytes().starts_with(LOOPBACK)
+}
+
+/// Why there is no such server, by its numbers and by who may exchange.
 fn refusal_in(serving: &Serving<'_>) -> Option<Refusal>
     ensures places { IsNone result → HasPlaces serving.now }
     ensures site { IsNone result → HasDeskSite serving.now.desk }
-    ensures none { HasPlaces serving.now → HasDeskSite serving.now.desk → IsNone result }
+    ensures guarded { IsNone result → IsGuarded serving.now }
+    ensures none { HasPlaces serving.now → HasDeskSite serving.now.desk → IsGuarded serving.now
+        → IsNone result }
 {
+    if !is_guarded(serving) {
+        return Some(OPEN_EXCHANGE);
+    }
     if !has_desk_site(serving) {
         return Some(BAD_SITE);
     }
@@ -196,6 +215,7 @@ fn server_of<'a>(alloc: Global, found: &ArgMatches<'a>) -> Serving<'a>
 pub(crate) fn read_serve<'a>(alloc: Global, found: &ArgMatches<'a>) -> Result<Serving<'a>, Unread>
     ensures places { IfOk result HasPlaces }
     ensures site { IfOk result (λ serving. HasDeskSite serving.desk) }
+    ensures guarded { IfOk result IsGuarded }
     ensures words { IfOk result (ServesAs (rows_in found.now)) }
 {
     tested(found, SERVE_ROWS)?;

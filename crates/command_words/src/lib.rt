@@ -76,7 +76,8 @@ pub struct Serving<'a> {
     pub every: u32,
     /// From where associations may come. Where none is named they may come from anywhere.
     pub allowed: Vec<Network>,
-    /// From where exchanges may come, likewise.
+    /// From where exchanges may come. Where none is named, from anywhere that reaches the address,
+    /// which is then of this machine.
     pub exchange_allowed: Vec<Network>,
     /// From where pages may be asked for. Where none is named, from this machine alone.
     pub page_allowed: Vec<Network>,

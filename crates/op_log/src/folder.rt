@@ -14,9 +14,9 @@ ghost use Rattle.sqlite_std_file.specs.File.{file_is_usable, IsFresh};
 use crate::fault::LogFault;
 use crate::folder_fault::FolderFault;
 use crate::folder_refused::FolderRefused;
-use crate::lengthening::lengthened;
+use crate::lengthening::{lengthened, reached};
 use crate::log::OpLog;
-use crate::older_folder::renew_folder;
+use crate::older_folder::{remove, renew_folder};
 use crate::refused::Refused;
 use sqlite_disk::Files;
 use sqlite_std_file::{FileFrom, Start, Wary, open};
@@ -148,15 +148,28 @@ pub fn log_in<H: Start, B: Start>(
     }
 }
 
+/// Removes the records beside a log, which tell of operations that its data sets may lack.
+/// Afterwards that is on the disk.
+fn forget_records(rt: &HostRuntime, folder: &str) -> Result<(), FolderFault> {
+    let records = format!(in rt.alloc(); "{folder}/records")?;
+    remove(rt, records.as_str())?;
+    File::open(rt, folder)?.sync_all()?;
+    Ok(())
+}
+
 /// The log of files that were handed back since their heads lead behind the end of the data sets.
+/// Its records go before these are lengthened: a stop between leaves what is opened so once more.
 fn open_lengthened(
     rt: &HostRuntime,
+    folder: &str,
     files: (FolderFile, FolderFile),
 ) -> Result<FolderLog, FolderFault>
     ensures open { IfOk result (λ log. IsTrue log.is_open) }
 {
     let (heads, bodies) = files;
-    let (heads, bodies) = lengthened(rt.alloc(), heads, bodies)?;
+    let (heads, reach) = reached(rt.alloc(), heads)?;
+    forget_records(rt, folder)?;
+    let bodies = lengthened(bodies, reach)?;
     match OpLog::open(rt.alloc(), heads, bodies) {
         Ok(log) => Ok(log),
         Err(refused) => Err(FolderFault::Log(refused.fault)),
@@ -173,7 +186,7 @@ fn open_files(rt: &HostRuntime, folder: &str) -> Result<(FolderLog, bool), Folde
     };
     match (fault, files) {
         (FolderFault::Log(LogFault::DamagedHeads(_)), Some(files)) => {
-            Ok((open_lengthened(rt, files)?, true))
+            Ok((open_lengthened(rt, folder, files)?, true))
         }
         _ => Err(fault),
     }
@@ -181,8 +194,9 @@ fn open_files(rt: &HostRuntime, folder: &str) -> Result<(FolderLog, bool), Folde
 
 /// Opens the log in a folder, of which nothing is supposed. The folder and its files are made where
 /// they are not there, and those of the older form are renewed: where one of these is refused, it
-/// stays as it is. Data sets that end before whole heads lead are lengthened to there. It is `Busy`
-/// while another program, or this one, has them open.
+/// stays as it is. Data sets that end before whole heads lead are lengthened to there, once the
+/// records beside them, which told of what these lack, are gone. It is `Busy` while another program,
+/// or this one, has them open.
 pub fn open_folder(rt: &HostRuntime, folder: &str) -> Result<OpenedFolder, FolderFault>
     ensures open { IfOk result (λ opened. IsTrue opened.log.is_open) }
 {

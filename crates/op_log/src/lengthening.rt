@@ -4,7 +4,7 @@
 //! What is behind the old end reads as none of the operations that lie there: these can't be read
 //! until they are put again. No byte that the file has is written.
 
-ghost use Rattle.std.specs.Prelude.{◌≡◌, ◌≤◌, ◌^◌, ◌-◌, All, length, IfOk, IsTrue, OnOk};
+ghost use Rattle.std.specs.Prelude.{◌≡◌, ◌≤◌, ◌^◌, ◌-◌, ℕ, All, length, max, IfOk, IsTrue, OnOk};
 ghost use Rattle.body_log.specs.Lasts.{Spares};
 ghost use Rattle.op_log.specs.Heads.{Head};
 ghost use Rattle.op_log.specs.Kept.{IsBelow, KeepsHeads};
@@ -19,7 +19,9 @@ use std::io;
 
 /// Where the last data set ends that heads lead to.
 fn reach_of(places: &Places) -> usize
-    ensures { All (IsBelow (2 ^ 64 - 1)) places.now → All (IsBelow result) places.now }
+    ensures below { All (IsBelow (2 ^ 64 - 1)) places.now → All (IsBelow result) places.now }
+    // No data set ends behind it: what all end before, it is at most.
+    ensures least { (end : ℕ) → All (IsBelow end) places.now → result ≤ end }
 {
     let mut reach = 0;
     for index in 0..places.len() {
@@ -36,8 +38,8 @@ fn lengthen<B: Disk>(bodies: &mut B, reach: usize) -> io::Result<()>
     // Whatever is answered, no byte that it has is written.
     ensures spared { IsTrue (B.Disk.is_clean bodies.new)
         → Spares B.Disk (length (B.Disk.seen bodies.old)) bodies.old bodies.new }
-    ensures reach { OnOk result (IsTrue (B.Disk.is_clean bodies.new)
-        → reach ≤ length (B.Disk.seen bodies.new)) }
+    ensures long { OnOk result (IsTrue (B.Disk.is_clean bodies.new)
+        → length (B.Disk.seen bodies.new) ≡ max (length (B.Disk.seen bodies.old)) reach) }
     ensures usable { IsTrue (B.Disk.is_usable bodies.new) }
 {
     if reach <= bodies.len()? {
@@ -46,21 +48,13 @@ fn lengthen<B: Disk>(bodies: &mut B, reach: usize) -> io::Result<()>
     bodies.set_len(reach)
 }
 
-/// The files of a log whose heads lead behind the end of its data sets, which then end where these
-/// lead. Both are as a refused open hands them back.
-pub(crate) fn lengthened<H: Disk + Drop, B: Disk + Drop>(
-    alloc: Global,
-    heads: H,
-    bodies: B,
-) -> Result<(H, B), LogFault>
-    ensures kept { IfOk result (λ files. IsTrue (H.Disk.is_clean files.0)
-        → KeepsHeads H.Disk heads files.0) }
-    ensures spared { IfOk result (λ files. IsTrue (B.Disk.is_clean files.1)
-        → Spares B.Disk (length (B.Disk.seen bodies)) bodies files.1) }
-    ensures usable { IfOk result (λ files. IsTrue (H.Disk.is_usable files.0)
-        × IsTrue (B.Disk.is_usable files.1)) }
+/// The heads of a log, which are only read, and where the last data set ends that they lead to.
+pub(crate) fn reached<H: Disk + Drop>(alloc: Global, heads: H) -> Result<(H, usize), LogFault>
+    ensures kept { IfOk result (λ them. IsTrue (H.Disk.is_clean them.0)
+        → KeepsHeads H.Disk heads them.0) }
+    ensures usable { IfOk result (λ them. IsTrue (H.Disk.is_usable them.0)) }
 {
-    if !heads.may_be_used() || !bodies.may_be_used() {
+    if !heads.may_be_used() {
         return Err(LogFault::Disk);
     }
     let mut heads = match HeadLog::over(alloc, heads) {
@@ -68,9 +62,24 @@ pub(crate) fn lengthened<H: Disk + Drop, B: Disk + Drop>(
         Err(refused) => return Err(LogFault::from(refused.fault)),
     };
     let places = walk(alloc, &mut heads, usize::MAX)?;
+    Ok((heads.into_disk(), reach_of(&places)))
+}
+
+/// A file of data sets, which is lengthened to where heads lead if it ends before that. What was
+/// told of operations that it may lack is forgotten before.
+pub(crate) fn lengthened<B: Disk + Drop>(bodies: B, reach: usize) -> Result<B, LogFault>
+    ensures spared { IfOk result (λ now. IsTrue (B.Disk.is_clean now)
+        → Spares B.Disk (length (B.Disk.seen bodies)) bodies now) }
+    ensures long { IfOk result (λ now. IsTrue (B.Disk.is_clean now)
+        → length (B.Disk.seen now) ≡ max (length (B.Disk.seen bodies)) reach) }
+    ensures usable { IfOk result (λ now. IsTrue (B.Disk.is_usable now)) }
+{
+    if !bodies.may_be_used() {
+        return Err(LogFault::Disk);
+    }
     let mut bodies = bodies;
-    match lengthen(&mut bodies, reach_of(&places)) {
-        Ok(()) => Ok((heads.into_disk(), bodies)),
+    match lengthen(&mut bodies, reach) {
+        Ok(()) => Ok(bodies),
         Err(_error) => Err(LogFault::Disk),
     }
 }

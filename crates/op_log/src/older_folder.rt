@@ -49,7 +49,7 @@ fn may_be_older(rt: &HostRuntime, folder: &str, name: &str) -> bool {
 }
 
 /// Removes a file, if it is there.
-fn remove(rt: &HostRuntime, path: &str) -> io::Result<()> {
+pub(crate) fn remove(rt: &HostRuntime, path: &str) -> io::Result<()> {
     match fs::remove_file(rt, path) {
         Err(error) if error.kind() != ErrorKind::NotFound => Err(error),
         _ => Ok(()),

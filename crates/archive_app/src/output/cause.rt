@@ -53,6 +53,8 @@ pub enum FileCause {
     Hidden,
     /// Its log has frames behind a bad one, which an open would cut off.
     LostFrames,
+    /// So many of the operations that it has held are not there, at least.
+    Missing(usize),
 }
 
 /// Why an address is refused.
@@ -167,6 +169,9 @@ fn words_of_file(cause: FileCause) -> &'static str
             site, or a restore, mends it; --show-without serves without it",
         FileCause::LostFrames =>
             "its -wal is damaged, and an open would lose frames: archive move brings out the rest",
+        FileCause::Missing(_) =>
+            "it held more operations, as where an older copy is in its place: archive exchange \
+            with another site brings them, --show-without serves without; missing:",
     }
 }
 
@@ -303,12 +308,14 @@ pub fn a_full_disk_is_told_as_one()
     ensures { SaysFullOfAFullDisk }
 {}
 
-/// The byte of a file at which a cause is, where that is known: its words are before it.
+/// The number behind the words of a cause, where it has one: the byte of a file, or how many
+/// operations are missing.
 pub fn place_of(cause: Cause) -> Option<usize>
     ensures { result ≡ place_in cause }
 {
     match cause {
         Cause::File(FileCause::Heads(at)) => Some(at),
+        Cause::File(FileCause::Missing(count)) => Some(count),
         _ => None,
     }
 }

@@ -24,6 +24,9 @@ pub enum Note {
     HiddenGroup,
     /// The data sets in a folder ended before what leads to them.
     ShortBodies,
+    /// What says how many operations there have been is damaged, or can't be written.
+    DamagedHeld,
+    NoHeld,
     /// The records do not follow the log.
     OtherRecords,
     /// It is served although a rejection note may be among what can't be read.
@@ -58,7 +61,10 @@ pub fn words_of_note(note: Note) -> &'static str
         Note::HiddenGroup =>
             "its older heads have a group behind their end, which does not count: see heads.older",
         Note::ShortBodies =>
-            "its file bodies ended before its heads lead: what is lacking can't be read till it comes again",
+            "its file bodies ended too soon: what it lacks can't be read till it comes again",
+        Note::DamagedHeld => "its file held is damaged: whether operations are missing isn't known",
+        Note::NoHeld =>
+            "its file held can't be written: operations that go missing may not be told",
         Note::OtherRecords =>
             "its file records does not follow its log: remove it, and the next start makes it anew",
         Note::ShownWithout =>

@@ -2,11 +2,11 @@ use Rattle.std.proofs.Common.{IsTrue, subst, sym}
 use Rattle.head_log.specs.Log.{disk_of as heads_of}
 use Rattle.op_log.specs.Kept.{KeepsHeads}
 use Rattle.op_log.proofs.Opening.{heads_kept, kept_through}
-use Rattle.op_log.proofs.lengthening.lengthened.Goals as goal
+use Rattle.op_log.proofs.lengthening.reached.Goals as goal
 
 -- The heads were only read.
-pub returns-in-Ok-lengthen-clause-kept : goal.returns-in-Ok-lengthen-clause-kept
-returns-in-Ok-lengthen-clause-kept g c clean =
+pub returns-clause-kept : goal.returns-clause-kept
+returns-clause-kept g c clean =
     let first = c.args.heads in
     let walked = heads_of c.walk.new.heads in
     let same = c.walk.ensures.same in
