@@ -2,7 +2,7 @@
 
 use crate::file::{OnStore, on_shelf};
 use crate::folder::{Starting, is_absent, is_folder, site_in};
-use crate::held::refuse_missing;
+use crate::held::{keep_held, refuse_missing};
 use crate::output::{Cause, CommandFault, Note, line_of_stamp};
 use crate::refused::{Done, Lacks, Refused, about, done_without, note};
 use command_words::{Change, Correcting, Part, bad_part, unmatched};
@@ -67,7 +67,9 @@ impl<'h, 'a> OnStore for Making<'h, 'a> {
         refuse_missing(rt, file, &mut store)?;
         let (alloc, starting) = (rt.alloc(), Starting::begins(rt, file));
         let made = correct_on(alloc, &mut store, site, target, tag, value, &starting);
-        Ok((about(file, made)?, 0))
+        let made = about(file, made)?;
+        keep_held(rt, file, &mut store);
+        Ok((made, 0))
     }
 }
 
@@ -86,6 +88,7 @@ fn made_in_folder<'a, T: Threads + Sync>(
         folder,
         correct_with(&mut log, &sited.site, number, target, tag, value),
     )?;
+    keep_held(rt, folder, &mut log);
     Ok((made, sited.unreadable.len() as u64))
 }
 

@@ -3,9 +3,9 @@
 //!
 //! An older copy in the place of a file, and one that was cut between two of its groups, are whole:
 //! no sum tells. So a server writes how many operations there are at its start, at its end, and as
-//! associations and exchanges end; an exchange by the command does so too. Where there are fewer
-//! later, some are missing, and a rejection may be one. What a crash leaves has no fewer: each was
-//! on the disk when it was counted.
+//! associations and exchanges end; a command that exchanges or corrects does so too. Where there
+//! are fewer later, some are missing, and a rejection may be one. What a crash leaves has no fewer:
+//! each was on the disk when it was counted.
 
 ghost use Rattle.std.specs.Prelude.{◌≡◌, ◌+◌, ◌<◌, ◌^◌, IfOk};
 
@@ -60,15 +60,22 @@ fn text_in(rt: &HostRuntime, path: &str) -> io::Result<Option<Vec<u8>>> {
     Ok(Some(text))
 }
 
-/// How many operations an archive has held, as far as its file tells. One that tells nothing is
-/// said to be damaged.
-fn held_by(rt: &HostRuntime, file: &str, path: &str) -> Option<u64> {
+/// How many operations an archive has held, as far as its file tells, and whether that is there and
+/// tells nothing.
+fn told_in(rt: &HostRuntime, path: &str) -> (Option<u64>, bool) {
     let text = match text_in(rt, path) {
-        Ok(text) => text?,
+        Ok(None) => return (None, false),
+        Ok(Some(text)) => text,
         Err(_unread) => Vec::new(rt.alloc()),
     };
     let held = held_in(text.as_slice());
-    if held.is_none() {
+    (held, held.is_none())
+}
+
+/// The same, where one that tells nothing is said to be damaged.
+fn held_by(rt: &HostRuntime, file: &str, path: &str) -> Option<u64> {
+    let (held, is_damaged) = told_in(rt, path);
+    if is_damaged {
         note(rt, file, Note::DamagedHeld);
     }
     held
@@ -119,7 +126,7 @@ pub fn missing_in<S: Store>(rt: &HostRuntime, file: &str, store: &mut S) -> u64 
 /// Writes how many operations an archive has, where it is known to have held less. Where that can't
 /// be written, this is said.
 fn raise(rt: &HostRuntime, file: &str, path: &str, count: u64) {
-    if is_more(held_by(rt, file, path), count) {
+    if is_more(told_in(rt, path).0, count) {
         match write_held(rt, path, count) {
             Ok(()) => {}
             Err(_refused) => note(rt, file, Note::NoHeld),

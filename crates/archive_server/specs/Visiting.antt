@@ -15,3 +15,8 @@ nanos_between None told = 0
 abbrev pub turns_of : Option Duration → ℕ
 turns_of None = 120
 turns_of (Some idle) = min (as_nanos idle / 1_000_000_000 * 4) 120
+
+-- how long who came may take to ask, in nanoseconds: as long as is waited for a peer, and 5 seconds at most
+abbrev pub nanos_to_ask : Option Duration → ℕ
+nanos_to_ask None = 5_000_000_000
+nanos_to_ask (Some idle) = min 5_000_000_000 (as_nanos idle)

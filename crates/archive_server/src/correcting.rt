@@ -11,12 +11,13 @@ use crate::asking::Asking;
 use crate::calling::Pauses;
 use crate::clerk::Clerk;
 use crate::done::Done;
-use crate::entrance::{Entered, Entrance, accept_from, pause_behind_accept};
+use crate::entrance::{Entered, Entrance, pause_behind_accept};
 use crate::fault::{NetFault, ServeFault};
 use crate::journal::{Made, Whence, tell_corrected, tell_not_accepted, tell_turned_away};
+use crate::lobby::{Lobby, lets_accepts_end, patience};
 use crate::meeting::Still;
 use crate::message::{Reach, Request};
-use crate::paging::{is_nobody, lets_accepts_end};
+use crate::paging::is_nobody;
 use crate::refusing::Telling;
 use crate::visit::{Visit, turn};
 use crate::wire::Wire;
@@ -41,8 +42,7 @@ pub struct Correcting<'a> {
     pub keys: RandomState,
 }
 
-/// What the thread has done, and one connection more, of a peer that may come in here. Behind it
-/// the peer may read what was sent last.
+/// What the thread has done, and one connection more, of a peer that may come in here.
 fn with_peer<'x, H: HubName, T: Shows<H>, R: Wait + Drop, S: Wait + Clock + Log, N: LedgerName>(
     hall: &'x Hall<'x, H, T, R, S>,
     correcting: Correcting<'_>,
@@ -65,7 +65,7 @@ fn with_peer<'x, H: HubName, T: Shows<H>, R: Wait + Drop, S: Wait + Clock + Log,
         rt,
         Asking::new(rt, alloc, to, &hall.health, &hall.recent, &hall.hashers),
     );
-    let mut reader = Visit::new(rt, wire, ended, idle);
+    let mut reader = Visit::new(rt, wire, ended, Some(patience(idle)));
     let mut writer = Visit::new(rt, wire, ended, idle);
     let (done, used, _served) = done.with_corrections(
         &hall.archive,
@@ -84,16 +84,17 @@ fn with_peer<'x, H: HubName, T: Shows<H>, R: Wait + Drop, S: Wait + Clock + Log,
         made,
         writer.count(),
     );
-    wire.part(rt);
     (done, used)
 }
 
-/// What the thread has done, with what came of an accept.
+/// What the thread has done, with what came of an accept. Who was answered may read what was sent
+/// last, and parts in the lobby.
 fn with_entered<'x, H: HubName, T: Shows<H>, R: Wait + Drop, S: Wait + Clock + Log, N: LedgerName>(
     hall: &'x Hall<'x, H, T, R, S>,
     correcting: Correcting<'_>,
     to: &'x Sender<Request<N>>,
     ended: &Receiver<()>,
+    lobby: &mut Lobby<'_, S>,
     came: io::Result<Entered>,
     stamps: Stamps,
     done: Done<H, N>,
@@ -106,7 +107,9 @@ fn with_entered<'x, H: HubName, T: Shows<H>, R: Wait + Drop, S: Wait + Clock + L
 {
     match came {
         Ok(Entered::LetIn(wire, peer)) => {
-            with_peer(hall, correcting, to, ended, &wire, peer, stamps, done)
+            let served = with_peer(hall, correcting, to, ended, &wire, peer, stamps, done);
+            lobby.see_off(wire, peer);
+            served
         }
         Ok(Entered::TurnedAway(peer)) => {
             tell_turned_away(hall.archive.rt, hall.manner, peer);
@@ -119,12 +122,14 @@ fn with_entered<'x, H: HubName, T: Shows<H>, R: Wait + Drop, S: Wait + Clock + L
     }
 }
 
-/// Accepts once, unless nobody comes within a turn. It says how long is waited before the next.
+/// Serves the next who has asked, unless nobody has within a turn. It says how long is waited
+/// before the next.
 fn accept_one<'x, H: HubName, T: Shows<H>, R: Wait + Drop, S: Wait + Clock + Log, N: LedgerName>(
     hall: &'x Hall<'x, H, T, R, S>,
     correcting: Correcting<'_>,
     to: &'x Sender<Request<N>>,
     ended: &Receiver<()>,
+    lobby: &mut Lobby<'_, S>,
     stamps: Stamps,
     clerk: Clerk<H, N>,
 ) -> (Done<H, N>, Stamps, Duration)
@@ -132,12 +137,12 @@ fn accept_one<'x, H: HubName, T: Shows<H>, R: Wait + Drop, S: Wait + Clock + Log
         (at_desk result.0.clerk result.1) }
 {
     let done = Done::nothing(clerk, None);
-    let came = accept_from(correcting.entrance, Some(turn()));
+    let came = lobby.next(correcting.entrance);
     if is_nobody(&came) {
         return (done, stamps, Duration::ZERO);
     }
     let pause = pause_behind_accept(&came);
-    let (done, stamps) = with_entered(hall, correcting, to, ended, came, stamps, done);
+    let (done, stamps) = with_entered(hall, correcting, to, ended, lobby, came, stamps, done);
     (done, stamps, pause)
 }
 
@@ -155,6 +160,7 @@ fn accept_again<
     correcting: Correcting<'_>,
     to: &'x Sender<Request<N>>,
     ended: &Receiver<()>,
+    lobby: &mut Lobby<'_, S>,
     pauses: &mut C,
     stamps: Stamps,
     clerk: Clerk<H, N>,
@@ -167,7 +173,7 @@ fn accept_again<
     let mut made = stamps;
     let mut first = None;
     for _ in hall.archive.rt.forever() {
-        let (done, used, pause) = accept_one(hall, correcting, to, ended, made, onward);
+        let (done, used, pause) = accept_one(hall, correcting, to, ended, lobby, made, onward);
         let (clerk, _accepted, fault) = done.into_parts();
         onward = clerk;
         made = used;
@@ -196,18 +202,19 @@ pub(crate) fn correct_all<
 ) -> Done<H, N>
     ensures corrected { HasCorrected H.opening correcting.entry.site clerk result.clerk }
 {
-    if lets_accepts_end(correcting.entrance.listener).is_err() {
+    if lets_accepts_end(correcting.entrance.listener, turn()).is_err() {
         return Done::nothing(clerk, Some(ServeFault::Net(NetFault::Accept)));
     }
-    let mut still = Still {
-        rt: hall.archive.rt,
-        ended: &ended,
-    };
+    let (rt, alloc) = (hall.archive.rt, hall.archive.alloc);
+    let mut lobby = Lobby::new(rt, alloc, hall.manner);
+    let mut still = Still { rt, ended: &ended };
     let stamps = Stamps {
         site: correcting.site,
         last: 0,
     };
     let to = &reach.to;
-    let (done, _made) = accept_again(hall, correcting, to, &ended, &mut still, stamps, clerk);
+    let (done, _made) = accept_again(
+        hall, correcting, to, &ended, &mut lobby, &mut still, stamps, clerk,
+    );
     done
 }

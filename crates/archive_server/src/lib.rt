@@ -40,6 +40,7 @@ mod journal;
 mod keeping;
 mod known;
 mod line;
+mod lobby;
 mod manner;
 mod meeting;
 mod message;

@@ -18,7 +18,7 @@ pub struct Manner<'a> {
     /// How long each wait for a peer lasts at most: to be connected, for a byte to come, or for
     /// room to write one. Time runs only while the server waits. Where there is none, a wait has no
     /// end. Who comes for a page, or to correct, has so long in all to ask, and so long to read,
-    /// but half a minute each at most, also where there is none.
+    /// but 5 seconds and half a minute at most, also where there is none.
     pub idle: Option<Duration>,
     /// How many bytes of memory the operations may hold that were put or loaded last: they are not
     /// read again while they are remembered.

@@ -20,7 +20,7 @@ use log::Log;
 use site_hub::{HubName, Shows};
 use std::net::{Net, TcpListener, TcpStream};
 use std::sync::Wait;
-use std::time::{Clock, Duration};
+use std::time::{Clock, Duration, Instant};
 
 /// A site that serves exchanges, and how long the server waits before it calls it again, unless an
 /// exchange with any peer brings something meanwhile.
@@ -86,16 +86,21 @@ fn turn() -> Duration {
     Duration::from_secs(1)
 }
 
-/// Whether a peer is called again: its pause is over, or exchanges brought something since it was
-/// called.
-fn is_due(left: Duration, seen: u64, brought: u64) -> bool
-    ensures { IsTrue result ↔ ((as_nanos left ≡ 0) ⊎ (seen ≢ brought)) }
+/// Whether a peer is called again: its pause is over, or its rest is, and exchanges brought
+/// something since it was called.
+fn is_due(left: Duration, rest: Duration, seen: u64, brought: u64) -> bool
+    ensures { IsTrue result ↔ ((as_nanos left ≡ 0)
+        ⊎ ((as_nanos rest ≡ 0) × (seen ≢ brought))) }
 {
-    left.is_zero() || seen != brought
+    left.is_zero() || (rest.is_zero() && seen != brought)
 }
 
+/// How many times as long as a call lasted is rested behind it, also where exchanges brought
+/// something: an exchange costs what is held, so calls have a tenth of the time.
+const RESTS: u32 = 9;
+
 /// The pauses of a thread that calls a peer: what exchanges bring ends them, so that each peer
-/// hears of it at once. Between two calls a turn is waited all the same.
+/// hears of it soon. Between two calls a turn is waited all the same, and a rest.
 #[derive(Drop)]
 struct Stirred<'a, S: Wait + Clock> {
     rt: &'a S,
@@ -103,15 +108,29 @@ struct Stirred<'a, S: Wait + Clock> {
     board: &'a Board,
     /// How many operations exchanges had brought before the last call.
     seen: u64,
+    /// When that call began, as far as a clock says it.
+    begun: Option<Instant>,
+    /// How long is rested behind it.
+    rest: Duration,
+}
+
+/// How long is rested behind a call that began then; not at all where no clock says it.
+fn rest_since<S: Clock>(rt: &S, begun: Option<Instant>) -> Duration {
+    match (begun, Instant::now(rt)) {
+        (Some(begun), Ok(now)) => now.duration_since(begun).saturating_mul(RESTS),
+        _ => Duration::ZERO,
+    }
 }
 
 impl<S: Wait + Clock> Pauses for Stirred<'_, S> {
     ghost turns = { λ _. None };
 
-    fn note(&mut self) {}
+    fn note(&mut self) {
+        self.rest = rest_since(self.rt, self.begun);
+    }
 
     fn is_served_after(&mut self, time: Duration) -> bool {
-        let mut left = time;
+        let (mut left, mut rest) = (time, self.rest);
         for _ in self.rt.forever() {
             let turn = left.min(turn());
             match self.ended.recv_timeout(self.rt, turn) {
@@ -119,9 +138,11 @@ impl<S: Wait + Clock> Pauses for Stirred<'_, S> {
                 Err(RecvTimeoutError::Disconnected) | Ok(()) => return false,
             }
             left = left.saturating_sub(turn);
+            rest = rest.saturating_sub(turn);
             let brought = self.board.brought(self.rt);
-            if is_due(left, self.seen, brought) {
+            if is_due(left, rest, self.seen, brought) {
                 self.seen = brought;
+                self.begun = Instant::now(self.rt).ok();
                 return true;
             }
         }
@@ -181,6 +202,8 @@ pub(crate) fn meet_all<
         ended: &ended,
         board: &hall.board,
         seen: hall.board.brought(rt),
+        begun: Instant::now(rt).ok(),
+        rest: Duration::ZERO,
     };
     let onward = call_again(
         hall,

@@ -11,10 +11,11 @@ ghost use Rattle.archive_server.specs.Entering.{IsAsAllowed};
 use crate::calling::Pauses;
 use crate::clerk::Clerk;
 use crate::done::Done;
-use crate::entrance::{Entered, Entrance, accept_from, pause_behind_accept};
+use crate::entrance::{Entered, Entrance, pause_behind_accept};
 use crate::fault::{NetFault, ServeFault};
 use crate::gauges::Gauges;
 use crate::journal::{Whence, tell_not_accepted, tell_turned_away, tell_visit};
+use crate::lobby::{Lobby, lets_accepts_end, patience};
 use crate::meeting::Still;
 use crate::visit::{Visit, rest_behind, turn};
 use crate::wire::{Wire, is_cut_off};
@@ -25,8 +26,7 @@ use log::Log;
 use site_hub::{HubName, Shows};
 use std::hash::RandomState;
 use std::io;
-use std::net::{SocketAddr, TcpListener, TcpStream};
-use std::os::fd::OwnedFd;
+use std::net::SocketAddr;
 use std::sync::Wait;
 use std::time::{Clock, Duration};
 
@@ -42,8 +42,8 @@ pub struct Paging<'a> {
     pub gauges: &'a Gauges,
 }
 
-/// What the thread has done, and one connection more, of a peer that may come in here, which may
-/// read what was sent last. It says how long stores have their turn behind it.
+/// What the thread has done, and one connection more, of a peer that may come in here. It says how
+/// long stores have their turn behind it.
 fn with_visitor<H: HubName, T: Shows<H>, R: Wait + Drop, S: Wait + Clock + Log, N: LedgerName>(
     hall: &Hall<'_, H, T, R, S>,
     paging: Paging<'_>,
@@ -63,20 +63,21 @@ fn with_visitor<H: HubName, T: Shows<H>, R: Wait + Drop, S: Wait + Clock + Log, 
     let known = hall
         .board
         .known(rt, alloc, hall.health.words(), paging.gauges.sizes());
-    let mut reader = Visit::new(rt, wire, ended, idle);
+    let mut reader = Visit::new(rt, wire, ended, Some(patience(idle)));
     let mut writer = Visit::new(rt, wire, ended, idle);
     let (done, _answered) = done.with_pages(alloc, paging, &known, &mut reader, &mut writer);
     tell_visit(rt, hall.manner, Whence::at(peer), wire, writer.count());
-    wire.part(rt);
     (done, rest_behind(reader.made_until(&writer)))
 }
 
 /// What the thread has done, with what came of an accept, and how long is waited before the next:
-/// behind a page stores have their turn, and behind an accept that failed a turn is let go by.
+/// behind a page stores have their turn, and behind an accept that failed a turn is let go by. Who
+/// was answered may read what was sent last, and parts in the lobby.
 fn with_entered<H: HubName, T: Shows<H>, R: Wait + Drop, S: Wait + Clock + Log, N: LedgerName>(
     hall: &Hall<'_, H, T, R, S>,
     paging: Paging<'_>,
     ended: &Receiver<()>,
+    lobby: &mut Lobby<'_, S>,
     came: io::Result<Entered>,
     done: Done<H, N>,
 ) -> (Done<H, N>, Duration)
@@ -87,7 +88,11 @@ fn with_entered<H: HubName, T: Shows<H>, R: Wait + Drop, S: Wait + Clock + Log, 
 {
     let pause = pause_behind_accept(&came);
     match came {
-        Ok(Entered::LetIn(wire, peer)) => with_visitor(hall, paging, ended, &wire, peer, done),
+        Ok(Entered::LetIn(wire, peer)) => {
+            let visited = with_visitor(hall, paging, ended, &wire, peer, done);
+            lobby.see_off(wire, peer);
+            visited
+        }
         Ok(Entered::TurnedAway(peer)) => {
             tell_turned_away(hall.archive.rt, hall.manner, peer);
             (done.with_turned_away(paging.entrance, peer), pause)
@@ -104,21 +109,23 @@ pub(crate) fn is_nobody(came: &io::Result<Entered>) -> bool {
     matches!(came, Err(error) if is_cut_off(error))
 }
 
-/// Accepts once, unless nobody comes within a turn. It says how long is waited before the next.
+/// Serves the next who has asked, unless nobody has within a turn. It says how long is waited
+/// before the next.
 fn accept_one<H: HubName, T: Shows<H>, R: Wait + Drop, S: Wait + Clock + Log, N: LedgerName>(
     hall: &Hall<'_, H, T, R, S>,
     paging: Paging<'_>,
     ended: &Receiver<()>,
+    lobby: &mut Lobby<'_, S>,
     clerk: Clerk<H, N>,
 ) -> (Done<H, N>, Duration)
     ensures looked { HasOnlyLooked clerk result.0.clerk }
 {
     let done = Done::nothing(clerk, None);
-    let came = accept_from(paging.entrance, Some(turn()));
+    let came = lobby.next(paging.entrance);
     if is_nobody(&came) {
         return (done, Duration::ZERO);
     }
-    with_entered(hall, paging, ended, came, done)
+    with_entered(hall, paging, ended, lobby, came, done)
 }
 
 /// Accepts again and again, as long as somebody serves.
@@ -133,6 +140,7 @@ fn accept_again<
     hall: &Hall<'_, H, T, R, S>,
     paging: Paging<'_>,
     ended: &Receiver<()>,
+    lobby: &mut Lobby<'_, S>,
     pauses: &mut C,
     clerk: Clerk<H, N>,
 ) -> Done<H, N>
@@ -142,7 +150,7 @@ fn accept_again<
     let mut onward = clerk;
     let mut first = None;
     for _ in hall.archive.rt.forever() {
-        let (done, pause) = accept_one(hall, paging, ended, onward);
+        let (done, pause) = accept_one(hall, paging, ended, lobby, onward);
         let (clerk, _accepted, fault) = done.into_parts();
         onward = clerk;
         first = first.or(fault);
@@ -151,12 +159,6 @@ fn accept_again<
         }
     }
     unreachable!()
-}
-
-/// Lets each accept of a listener end after a turn, in which nobody came.
-pub(crate) fn lets_accepts_end(listener: &TcpListener) -> io::Result<()> {
-    // A socket's time to receive is also that of an accept.
-    TcpStream::from(OwnedFd::from(listener.try_clone()?)).set_read_timeout(Some(turn()))
 }
 
 /// Answers who comes for a page, as long as anybody accepts associations or exchanges.
@@ -174,12 +176,11 @@ pub(crate) fn page_all<
 ) -> Done<H, N>
     ensures looked { HasOnlyLooked clerk result.clerk }
 {
-    if lets_accepts_end(paging.entrance.listener).is_err() {
+    if lets_accepts_end(paging.entrance.listener, turn()).is_err() {
         return Done::nothing(clerk, Some(ServeFault::Net(NetFault::Accept)));
     }
-    let mut still = Still {
-        rt: hall.archive.rt,
-        ended: &ended,
-    };
-    accept_again(hall, paging, &ended, &mut still, clerk)
+    let (rt, alloc) = (hall.archive.rt, hall.archive.alloc);
+    let mut lobby = Lobby::new(rt, alloc, hall.manner);
+    let mut still = Still { rt, ended: &ended };
+    accept_again(hall, paging, &ended, &mut lobby, &mut still, clerk)
 }
