@@ -2,7 +2,9 @@
 use Rattle.std.specs.Prelude.{◌≡◌, ◌==◌, ℕ, List, cond, length}
 use Rattle.operation.specs.declared.op.Op.{Op}
 use Rattle.site_tables.specs.declared.study.TakenStudy.{TakenStudy}
+use Rattle.site_tables.specs.declared.study_facts.StudyFacts.{StudyFacts}
 use Rattle.site_tables.specs.Study.{IsTakenStudy, instance_rows, change_rows}
+use Rattle.site_tables.specs.StudyFacts.{facts_by}
 use Rattle.archive_page.specs.declared.answer.Answer.{Answer}
 use Rattle.archive_page.specs.declared.answer.Status.TheVariants.{NotFound}
 use Rattle.archive_page.specs.declared.study.StudyPage.{StudyPage}
@@ -11,9 +13,20 @@ use Rattle.archive_page.specs.Answers.{study_answer, refusal}
 use Rattle.archive_page.specs.Searches.{text_of}
 use Rattle.site_pages.specs.declared.study.TheConstants.{NO_STUDY}
 
+-- the page of a study of which this is told
+abbrev pub page_with : List ℕ → StudyFacts → TakenStudy → StudyPage
+page_with uid facts taken = record {
+  uid = uid;
+  name = facts.name;
+  date = facts.date;
+  facts = facts.rows;
+  instances = instance_rows taken;
+  corrections = change_rows taken;
+}
+
 -- what the page of a study tells, by what was taken of it
 abbrev pub study_page : List ℕ → TakenStudy → StudyPage
-study_page uid taken = record { uid = uid; instances = instance_rows taken; corrections = change_rows taken }
+study_page uid taken = page_with uid (facts_by uid taken.found) taken
 
 -- the page of a study, or that there is none, where there is no instance of it
 abbrev pub answer_of : Form → List ℕ → TakenStudy → Answer

@@ -5,7 +5,7 @@ ghost use Rattle.site_pages.specs.StudyPages.{study_page as study_page_of, answe
 
 use archive_page::{Answer, Form, Status, StudyPage, refusal, study_answer};
 use octets::{ListOf, Octets};
-use site_tables::TakenStudy;
+use site_tables::{StudyFacts, TakenStudy};
 use std::alloc::{AllocError, Global};
 
 /// Why there is no page.
@@ -15,10 +15,14 @@ const NO_STUDY: [u8; 23] = *b"There is no such study.";
 fn page_of(alloc: Global, uid: &[u8], taken: &TakenStudy) -> Result<StudyPage, AllocError>
     ensures { IfOk result (λ page. page ≡ study_page_of uid.now taken.now) }
 {
+    let StudyFacts { name, date, rows } = taken.facts(alloc, uid)?;
     let instances = taken.instance_rows(alloc)?;
     let corrections = taken.change_rows(alloc)?;
     Ok(StudyPage {
         uid: Octets::from_slice(alloc, uid)?,
+        name,
+        date,
+        facts: rows,
         instances: ListOf::of(instances),
         corrections: ListOf::of(corrections),
     })

@@ -8,5 +8,6 @@ pub mod Separated
 pub mod Shown
 pub mod Studies
 pub mod Study
+pub mod StudyFacts
 pub mod Tables
 pub mod Under

@@ -1,4 +1,4 @@
--- A study: its instances, what of it is rejected, and the corrections of its attributes.
+-- A study: what is told of it, its instances, what of it is rejected, and the corrections of its attributes.
 use Rattle.std.specs.Prelude.{◌≡◌, ℕ, List, [], ◌∷◌, ◌++◌, Bool, map}
 use Rattle.std.specs.List.{filter, list_any, join_with_byte}
 use Rattle.std.specs.Option.{is_some}
@@ -19,6 +19,7 @@ use Rattle.site_tables.specs.declared.under.Under.{Under}
 use Rattle.site_tables.specs.Cells.{yes_no}
 use Rattle.site_tables.specs.Corrections.{correction_row, AreCorrections}
 use Rattle.site_tables.specs.Rejected.{notes_of, rejected_row, row_by}
+use Rattle.site_tables.specs.StudyFacts.{IsFound}
 
 -- what a C-GET of a study selects (PS3.4, C.4.3.1.3)
 abbrev pub selection_of : List ℕ → Selection
@@ -36,8 +37,9 @@ with_shown ops c = record { content = c; shown = is_some (shown_at Archive ops c
 abbrev pub instances_of : List ℕ → List Op → List Instance
 instances_of uid ops = map (with_shown ops) (picks_of uid ops)
 
--- what a look took of a study: its instances, all notes, and the corrections of a set
+-- what a look took of a study: what is told of it, its instances, all notes, and the corrections of a set
 pub record IsTakenStudy (uid : List ℕ) (ops : List Op) (taken : TakenStudy) : Type 0 where
+  pub found : IsFound uid ops taken.found
   pub instances : taken.instances ≡ instances_of uid ops
   pub notes : taken.notes ≡ notes_of ops
   pub corrections : AreCorrections ops taken.corrections

@@ -16,15 +16,17 @@ mod rejected;
 mod separated;
 mod studies;
 mod study;
+mod study_facts;
 mod table;
 mod taken;
 mod under;
 
 pub use aligned::align;
-pub use laws::the_rejected_are_what_is_covered;
+pub use laws::{a_study_is_told_as_it_is_found, the_rejected_are_what_is_covered};
 pub use rejected::{rows_of_uids, take_notes};
 pub use separated::separate;
 pub use studies::TakenStudies;
 pub use study::TakenStudy;
+pub use study_facts::StudyFacts;
 pub use table::{Row, Table, rows_of_table};
 pub use taken::TakenTable;

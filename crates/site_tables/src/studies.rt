@@ -48,7 +48,7 @@ const TOLD: [u32; 6] = [
 ];
 
 /// A universal key (PS3.4, section C.2.2.2.3).
-fn asked(alloc: Global, tag: u32, matching: Matching) -> Asked
+pub(crate) fn asked(alloc: Global, tag: u32, matching: Matching) -> Asked
     ensures { result ≡ asked_in tag matching }
 {
     Asked {
@@ -147,7 +147,7 @@ fn count_of_study(
 }
 
 /// The trimmed value of an element, empty where there is none.
-fn value(set: &DataSet, tag: u32) -> &[u8]
+pub(crate) fn value(set: &DataSet, tag: u32) -> &[u8]
     ensures { result.now ≡ value_or_none tag set.now }
 {
     match set.value(tag) {

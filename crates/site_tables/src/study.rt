@@ -1,4 +1,5 @@
-//! A study: its instances, what of it is rejected, and the corrections of its attributes.
+//! A study: what is told of it, its instances, what of it is rejected, and the corrections of its
+//! attributes.
 
 ghost use Rattle.std.specs.Prelude.{◌≡◌, ◌==◌, IfOk, length, map};
 ghost use Rattle.std.specs.List.{filter};
@@ -14,16 +15,18 @@ ghost use Rattle.site_tables.specs.Study.{instance_rows as instance_rows_of};
 ghost use Rattle.site_tables.specs.Study.{is_of as is_of_in, concerns as concerns_in};
 ghost use Rattle.site_tables.specs.Study.{stored_values as stored_values_in, change_row as change_row_of};
 ghost use Rattle.site_tables.specs.Study.{change_rows as change_rows_of};
+ghost use Rattle.site_tables.specs.StudyFacts.{facts_by as facts_by_of};
 ghost use Rattle.site_tables.specs.Under.{AreInOrder};
 
 use crate::cells::word;
 use crate::copies::references;
 use crate::corrections::{Stamped, row as correction_row, take_corrections};
 use crate::rejected::{by_named, put_row_at, take_notes};
+use crate::study_facts::{StudyFacts, facts_by, take_facts};
 use crate::table::Row;
 use crate::under::Under;
 use archive_model::{View, patient, series, study};
-use archive_query::{Level, Selection, shown_selected};
+use archive_query::{Found, Level, Selection, shown_selected};
 use octets::{ListOf, Octets, ascending, joined};
 use operation::{Correction, Target};
 use records::RecordedContent;
@@ -38,9 +41,11 @@ pub struct Instance {
     shown: bool,
 }
 
-/// What a look takes of a study: its instances, and the notes and the corrections of the site.
+/// What a look takes of a study: what is told of it, its instances, and the notes and the
+/// corrections of the site.
 #[derive(Drop)]
 pub struct TakenStudy {
+    found: Found,
     instances: ListOf<Instance>,
     notes: ListOf<RecordedContent>,
     corrections: ListOf<Stamped>,
@@ -217,10 +222,12 @@ impl TakenStudy {
     pub fn of(alloc: Global, site: &Site, uid: &[u8]) -> Result<TakenStudy, AllocError>
         ensures { IfOk result (IsTakenStudy uid.now (ops_of site.now)) }
     {
+        let found = take_facts(alloc, site, uid)?;
         let instances = take_instances(alloc, site, uid)?;
         let notes = take_notes(alloc, site)?;
         let corrections = take_corrections(alloc, site)?;
         Ok(TakenStudy {
+            found,
             instances: ListOf::of(instances),
             notes: ListOf::of(notes),
             corrections: ListOf::of(corrections),
@@ -232,6 +239,14 @@ impl TakenStudy {
         ensures { result ≡ (length self.now.instances == 0) }
     {
         self.instances.is_empty()
+    }
+
+    /// What a C-FIND for this study, of which this was taken, answers to the called title AUDIT: the
+    /// patient, the attributes of the study, and what is in it.
+    pub fn facts(&self, alloc: Global, uid: &[u8]) -> Result<StudyFacts, AllocError>
+        ensures { IfOk result (λ facts. facts ≡ facts_by_of uid.now self.now.found) }
+    {
+        facts_by(alloc, uid, &self.found)
     }
 
     /// Of each instance of the study, by ascending SOP Instance UID: the series, the UID, the codes
