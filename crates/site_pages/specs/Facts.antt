@@ -1,5 +1,6 @@
 -- What a server knows of its exchanges with each peer, and tells of itself as rows of its site's page.
-use Rattle.std.specs.Prelude.{ℕ, ◌-◌, List, [], ◌∷◌, ◌++◌, Option, Some, None, Bool, ◌||◌, nat_le, codes, cond, length, map}
+use Rattle.std.specs.Prelude.{ℕ, ◌-◌, List, [], ◌∷◌, ◌++◌, Option, Some, None, Bool, ◌||◌, nat_le, codes, cond}
+use Rattle.std.specs.Prelude.{length, map}
 use Rattle.std.specs.Fmt.{decimal}
 use Rattle.std.specs.List.{list_any}
 use Rattle.octets.specs.Texts.{same}

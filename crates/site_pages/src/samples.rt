@@ -5,7 +5,8 @@ ghost use Rattle.std.specs.Prelude.{◌≡◌, ◌++◌, IfOk, OnOk};
 ghost use Rattle.site_pages.specs.Samples.{sample_in, labelled_in, held_samples, association_samples, store_samples};
 ghost use Rattle.site_pages.specs.Samples.{find_samples, served_samples, called_samples, operation_samples};
 ghost use Rattle.site_pages.specs.Samples.{moment_samples, known_samples, since_samples, samples_in};
-ghost use Rattle.site_pages.specs.Samples.{family_of, agreement, last_agreement, number_of, peer_sample, peer_samples};
+ghost use Rattle.site_pages.specs.Samples.{family_of, agreement, last_agreement, number_of};
+ghost use Rattle.site_pages.specs.Samples.{peer_sample, peer_samples};
 
 use crate::ends::{AssociationEnds, ExchangeEnd, ExchangeEnds};
 use crate::facts::{Meeting, word};
@@ -315,14 +316,8 @@ fn put_peer(
     let Some(value) = number(column.part, peer, column.now) else {
         return Ok(());
     };
-    let address = peer.address.as_slice();
-    out.push(labelled(
-        alloc,
-        family(column.way, column.part),
-        word(column.way),
-        address,
-        value,
-    )?)?;
+    let (name, address) = (family(column.way, column.part), peer.address.as_slice());
+    out.push(labelled(alloc, name, word(column.way), address, value)?)?;
     Ok(())
 }
 
@@ -344,19 +339,18 @@ fn put_column(
 
 /// What is told of each peer: the samples of one name stand together.
 #[tactic(auto, unfolding(crate::specs::Samples::peer_samples))]
-fn of_peers(
-    alloc: Global,
-    way: Way,
-    peers: &[Meeting],
-    now: u64,
-) -> Result<Vec<Sample>, AllocError>
+fn of_peers(alloc: Global, way: Way, peers: &[Meeting], now: u64) -> Result<Vec<Sample>, AllocError>
     ensures { IfOk result (λ samples. samples.items ≡ peer_samples way now peers.now) }
 {
     let mut samples = Vec::new(alloc);
-    put_column(alloc, &mut samples, Column::of(way, Part::SinceAgreed, now), peers)?;
-    put_column(alloc, &mut samples, Column::of(way, Part::Agrees, now), peers)?;
-    put_column(alloc, &mut samples, Column::of(way, Part::Given, now), peers)?;
-    put_column(alloc, &mut samples, Column::of(way, Part::Taken, now), peers)?;
+    let since = Column::of(way, Part::SinceAgreed, now);
+    put_column(alloc, &mut samples, since, peers)?;
+    let agrees = Column::of(way, Part::Agrees, now);
+    put_column(alloc, &mut samples, agrees, peers)?;
+    let given = Column::of(way, Part::Given, now);
+    put_column(alloc, &mut samples, given, peers)?;
+    let taken = Column::of(way, Part::Taken, now);
+    put_column(alloc, &mut samples, taken, peers)?;
     Ok(samples)
 }
 
