@@ -1,6 +1,7 @@
 pub mod Answers
 pub mod Asking
 pub mod Calling
+pub mod Calls
 pub mod Cause
 pub mod Correcting
 pub mod Done

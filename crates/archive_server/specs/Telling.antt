@@ -8,6 +8,7 @@ use Rattle.site_hub.specs.History.{set_of}
 use Rattle.site_hub.specs.Hub.{Seat, HasLooked}
 use Rattle.archive_page.specs.declared.fact.Fact.{Fact}
 use Rattle.archive_page.specs.declared.metrics.Sample.{Sample}
+use Rattle.site_pages.specs.declared.facts.Meeting.{Meeting}
 use Rattle.site_pages.specs.declared.meters.Meters.{Meters}
 use Rattle.site_pages.specs.declared.samples.Reading.{Reading}
 use Rattle.site_pages.specs.declared.samples.Sizes.{Sizes}
@@ -15,12 +16,14 @@ use Rattle.site_pages.specs.Samples.{samples_in}
 use Rattle.site_pages.specs.HubPages.{HubSource, AnswersFrom}
 
 -- what a server knows of itself: why its shelf refuses, if it does, what it has counted, how many seconds ago it began,
--- how much it takes of its machine, and what stands on its site's page
+-- how much it takes of its machine, its exchanges with each peer and each caller, and what stands on its site's page
 pub record Knowledge : Type 0 where
   pub refusal : Option (List ℕ)
   pub meters : Meters
   pub uptime : ℕ
   pub sizes : Sizes
+  pub peers : List Meeting
+  pub callers : List Meeting
   pub facts : List Fact
 
 -- what is told of a site that holds so many operations, to who measures it
@@ -37,7 +40,8 @@ reading_in counts known = record {
 -- Samples of all that is counted over what a pass has seen, or none where that can't be told.
 abbrev pub AreSamplesOf : Map → Seat → Knowledge → List Sample → Type 0
 AreSamplesOf opening seat known samples =
-    (samples ≡ []) ⊎ (samples ≡ samples_in (reading_in (counts_of (ops_of (set_of opening seat.seen))) known))
+    (samples ≡ []) ⊎ (samples
+    ≡ samples_in (reading_in (counts_of (ops_of (set_of opening seat.seen))) known) known.peers known.callers)
 
 -- A source of pages that is called so was made of a look of a pass, and of what its server knows.
 pub record IsSourceOf (opening : Map) (site : List ℕ) (known : Knowledge) (seat : Seat) (source : HubSource)

@@ -114,7 +114,7 @@ fn with_peer<'x, H: HubName, T: Shows<H>, R: Wait + Drop, S: Wait + Clock + Log,
     let (done, ended) = done.with_exchange(&hall.archive, &shelf, &mut reader, &mut writer);
     hall.manner.add_held(rt, alloc, taken_in(ended));
     tell_exchange(rt, hall.manner, whence, &wire, Role::Callee, ended);
-    hall.board.served(rt, ended);
+    hall.board.served(rt, alloc, peer, ended);
     wire.part(rt);
     hall.board.freed(rt);
     done

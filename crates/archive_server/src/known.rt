@@ -1,7 +1,7 @@
 //! What a server knows of itself as it answers for a page.
 
 use archive_page::Fact;
-use site_pages::{Meters, Sizes};
+use site_pages::{Meeting, Meters, Sizes};
 use std::marker::Model;
 
 /// What a server knows of itself as it answers for a page.
@@ -12,6 +12,9 @@ pub(crate) struct Known {
     /// How many seconds ago it began.
     pub uptime: u64,
     pub sizes: Sizes,
+    /// Its exchanges with each peer that it calls, and with each caller.
+    pub peers: Vec<Meeting>,
+    pub callers: Vec<Meeting>,
     /// What stands on the page of its site.
     pub facts: Vec<Fact>,
 }
@@ -27,6 +30,8 @@ impl Model for Known {
       meters = k.meters;
       uptime = k.uptime;
       sizes = k.sizes;
+      peers = k.peers.items;
+      callers = k.callers.items;
       facts = k.facts.items;
     } };
 }
@@ -38,6 +43,8 @@ impl Drop for Known {
             meters: _,
             uptime: _,
             sizes: _,
+            peers: _,
+            callers: _,
             facts: _,
         } = self;
     }

@@ -34,7 +34,8 @@ pub(crate) fn counted<H: HubName>(alloc: Global, pass: &mut Pass<H>, known: &Kno
     let Ok(counts) = pass.look(&CountsOf) else {
         return Vec::new(alloc);
     };
-    match samples_of(alloc, reading_of(counts, known)) {
+    let (peers, callers) = (known.peers.as_slice(), known.callers.as_slice());
+    match samples_of(alloc, reading_of(counts, known), peers, callers) {
         Ok(samples) => samples,
         Err(_refused) => Vec::new(alloc),
     }

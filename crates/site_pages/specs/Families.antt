@@ -25,6 +25,14 @@ kind_of family.Uptime = Gauge
 kind_of family.ResidentMemory = Gauge
 kind_of family.StoreBytes = Gauge
 kind_of family.SinceAgreed = Gauge
+kind_of family.PeerSinceAgreed = Gauge
+kind_of family.PeerAgrees = Gauge
+kind_of family.PeerGiven = Counter
+kind_of family.PeerTaken = Counter
+kind_of family.CallerSinceAgreed = Gauge
+kind_of family.CallerAgrees = Gauge
+kind_of family.CallerGiven = Counter
+kind_of family.CallerTaken = Counter
 
 -- their name
 unfoldable pub name_of : Family → List ℕ
@@ -46,6 +54,14 @@ name_of family.Uptime = codes "wiersomp_uptime_seconds"
 name_of family.ResidentMemory = codes "process_resident_memory_bytes"
 name_of family.StoreBytes = codes "wiersomp_store_bytes"
 name_of family.SinceAgreed = codes "wiersomp_seconds_since_agreed"
+name_of family.PeerSinceAgreed = codes "wiersomp_peer_seconds_since_agreed"
+name_of family.PeerAgrees = codes "wiersomp_peer_agrees"
+name_of family.PeerGiven = codes "wiersomp_peer_operations_given_total"
+name_of family.PeerTaken = codes "wiersomp_peer_operations_taken_total"
+name_of family.CallerSinceAgreed = codes "wiersomp_caller_seconds_since_agreed"
+name_of family.CallerAgrees = codes "wiersomp_caller_agrees"
+name_of family.CallerGiven = codes "wiersomp_caller_operations_given_total"
+name_of family.CallerTaken = codes "wiersomp_caller_operations_taken_total"
 
 -- what they count
 unfoldable pub help_of : Family → List ℕ
@@ -67,3 +83,11 @@ help_of family.Uptime = codes "Seconds since the server began."
 help_of family.ResidentMemory = codes "Bytes of memory that the process has resident."
 help_of family.StoreBytes = codes "Bytes of the files that the operations stand in."
 help_of family.SinceAgreed = codes "Seconds since the last exchange that agreed ended."
+help_of family.PeerSinceAgreed = codes "Seconds since an exchange with a called peer agreed."
+help_of family.PeerAgrees = codes "1 where the last call of a peer agreed, else 0."
+help_of family.PeerGiven = codes "Operations that were given to a called peer."
+help_of family.PeerTaken = codes "New operations that were taken from a called peer."
+help_of family.CallerSinceAgreed = codes "Seconds since an exchange with a caller agreed."
+help_of family.CallerAgrees = codes "1 where the last exchange with a caller agreed, else 0."
+help_of family.CallerGiven = codes "Operations that were given to a caller."
+help_of family.CallerTaken = codes "New operations that were taken from a caller."

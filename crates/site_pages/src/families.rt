@@ -26,6 +26,14 @@ pub(crate) enum Family {
     ResidentMemory,
     StoreBytes,
     SinceAgreed,
+    PeerSinceAgreed,
+    PeerAgrees,
+    PeerGiven,
+    PeerTaken,
+    CallerSinceAgreed,
+    CallerAgrees,
+    CallerGiven,
+    CallerTaken,
 }
 
 impl Family {
@@ -44,6 +52,10 @@ impl Family {
             Family::ExchangeUnread => SampleKind::Counter,
             Family::WorkersBusy | Family::Uptime | Family::SinceAgreed => SampleKind::Gauge,
             Family::ResidentMemory | Family::StoreBytes => SampleKind::Gauge,
+            Family::PeerSinceAgreed | Family::PeerAgrees => SampleKind::Gauge,
+            Family::PeerGiven | Family::PeerTaken => SampleKind::Counter,
+            Family::CallerSinceAgreed | Family::CallerAgrees => SampleKind::Gauge,
+            Family::CallerGiven | Family::CallerTaken => SampleKind::Counter,
         }
     }
 
@@ -70,6 +82,14 @@ impl Family {
             Family::ResidentMemory => b"process_resident_memory_bytes",
             Family::StoreBytes => b"wiersomp_store_bytes",
             Family::SinceAgreed => b"wiersomp_seconds_since_agreed",
+            Family::PeerSinceAgreed => b"wiersomp_peer_seconds_since_agreed",
+            Family::PeerAgrees => b"wiersomp_peer_agrees",
+            Family::PeerGiven => b"wiersomp_peer_operations_given_total",
+            Family::PeerTaken => b"wiersomp_peer_operations_taken_total",
+            Family::CallerSinceAgreed => b"wiersomp_caller_seconds_since_agreed",
+            Family::CallerAgrees => b"wiersomp_caller_agrees",
+            Family::CallerGiven => b"wiersomp_caller_operations_given_total",
+            Family::CallerTaken => b"wiersomp_caller_operations_taken_total",
         }
     }
 
@@ -100,6 +120,14 @@ impl Family {
             Family::ResidentMemory => b"Bytes of memory that the process has resident.",
             Family::StoreBytes => b"Bytes of the files that the operations stand in.",
             Family::SinceAgreed => b"Seconds since the last exchange that agreed ended.",
+            Family::PeerSinceAgreed => b"Seconds since an exchange with a called peer agreed.",
+            Family::PeerAgrees => b"1 where the last call of a peer agreed, else 0.",
+            Family::PeerGiven => b"Operations that were given to a called peer.",
+            Family::PeerTaken => b"New operations that were taken from a called peer.",
+            Family::CallerSinceAgreed => b"Seconds since an exchange with a caller agreed.",
+            Family::CallerAgrees => b"1 where the last exchange with a caller agreed, else 0.",
+            Family::CallerGiven => b"Operations that were given to a caller.",
+            Family::CallerTaken => b"New operations that were taken from a caller.",
         }
     }
 }

@@ -37,7 +37,7 @@ mod tally;
 pub use counting::{association_end_of, met_of, not_reached};
 pub use counts::site_answer;
 pub use ends::{AssociationEnd, AssociationEnds, ExchangeEnd, ExchangeEnds};
-pub use facts::{Meeting, facts_of, note_meeting};
+pub use facts::{Meeting, copied_meetings, enter_meeting, facts_of, note_caller, note_meeting};
 pub use hub_serving::serve_hub_pages;
 pub use hub_source::HubPages;
 pub use listing::listed;

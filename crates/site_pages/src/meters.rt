@@ -50,7 +50,7 @@ pub struct Meters {
 }
 
 /// When an exchange agreed last, after one more.
-fn agreed_after(before: Option<u64>, met: Met) -> Option<u64>
+pub(crate) fn agreed_after(before: Option<u64>, met: Met) -> Option<u64>
     ensures { result ≡ last_agreed before met.end met.at }
 {
     match met.end {

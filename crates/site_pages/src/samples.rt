@@ -1,13 +1,17 @@
 //! What is told of a running server to who measures it.
 
+ghost use Rattle.std.specs.List.{flat_map};
 ghost use Rattle.std.specs.Prelude.{◌≡◌, ◌++◌, IfOk, OnOk};
 ghost use Rattle.site_pages.specs.Samples.{sample_in, labelled_in, held_samples, association_samples, store_samples};
 ghost use Rattle.site_pages.specs.Samples.{find_samples, served_samples, called_samples, operation_samples};
 ghost use Rattle.site_pages.specs.Samples.{moment_samples, known_samples, since_samples, samples_in};
+ghost use Rattle.site_pages.specs.Samples.{family_of, agreement, last_agreement, number_of};
+ghost use Rattle.site_pages.specs.Samples.{peer_sample, peer_samples};
 
-use crate::ends::{AssociationEnds, ExchangeEnds};
+use crate::ends::{AssociationEnds, ExchangeEnd, ExchangeEnds};
+use crate::facts::{Meeting, word};
 use crate::families::Family;
-use crate::meters::Meters;
+use crate::meters::{Met, Meters, Way};
 use crate::tally::Tally;
 use archive_page::{Label, Sample};
 use octets::Octets;
@@ -34,6 +38,33 @@ pub struct Reading {
     /// How many seconds ago the server began.
     pub now: u64,
     pub sizes: Sizes,
+}
+
+/// What is told of each peer.
+#[derive(Clone, Copy)]
+pub(crate) enum Part {
+    SinceAgreed,
+    Agrees,
+    Given,
+    Taken,
+}
+
+/// One part of what is told of each peer in this second, by who calls whom.
+#[derive(Clone, Copy)]
+struct Column {
+    way: Way,
+    part: Part,
+    now: u64,
+}
+
+impl Column {
+    fn of(way: Way, part: Part, now: u64) -> Column
+        ensures way { result.way ≡ way }
+        ensures part { result.part ≡ part }
+        ensures now { result.now ≡ now }
+    {
+        Column { way, part, now }
+    }
 }
 
 /// A sample that stands alone under its name.
@@ -220,10 +251,119 @@ fn put_all(out: &mut Vec<Sample>, more: Vec<Sample>) -> Result<(), AllocError>
     Ok(())
 }
 
-/// All that is told to who measures a server.
+/// The name under which a part is told.
+fn family(way: Way, part: Part) -> Family
+    ensures { result ≡ family_of way part }
+{
+    match (way, part) {
+        (Way::Called, Part::SinceAgreed) => Family::PeerSinceAgreed,
+        (Way::Called, Part::Agrees) => Family::PeerAgrees,
+        (Way::Called, Part::Given) => Family::PeerGiven,
+        (Way::Called, Part::Taken) => Family::PeerTaken,
+        (Way::Served, Part::SinceAgreed) => Family::CallerSinceAgreed,
+        (Way::Served, Part::Agrees) => Family::CallerAgrees,
+        (Way::Served, Part::Given) => Family::CallerGiven,
+        (Way::Served, Part::Taken) => Family::CallerTaken,
+    }
+}
+
+/// 1 where an exchange agreed.
+fn agreed_number(end: ExchangeEnd) -> u64
+    ensures { result ≡ agreement end }
+{
+    match end {
+        ExchangeEnd::Agreed => 1,
+        ExchangeEnd::NotAgreed | ExchangeEnd::Unfinished => 0,
+        ExchangeEnd::Fault | ExchangeEnd::NotReached => 0,
+    }
+}
+
+/// 1 where the last exchange agreed.
+fn last_number(last: Option<Met>) -> u64
+    ensures { result ≡ last_agreement last }
+{
+    match last {
+        None => 0,
+        Some(met) => agreed_number(met.end),
+    }
+}
+
+/// The number of a part, if a peer has one.
+fn number(part: Part, peer: &Meeting, now: u64) -> Option<u64>
+    ensures { result ≡ number_of part now peer.now }
+{
+    match part {
+        Part::SinceAgreed => match peer.agreed {
+            None => None,
+            Some(at) => Some(now.saturating_sub(at)),
+        },
+        Part::Agrees => Some(last_number(peer.last)),
+        Part::Given => Some(peer.given),
+        Part::Taken => Some(peer.taken),
+    }
+}
+
+/// Puts a part of what is told of a peer, if there is one.
+fn put_peer(
+    alloc: Global,
+    out: &mut Vec<Sample>,
+    column: Column,
+    peer: &Meeting,
+) -> Result<(), AllocError>
+    ensures { OnOk result (out.new.items
+        ≡ out.old.items ++ peer_sample column.way column.part column.now peer.now) }
+{
+    let Some(value) = number(column.part, peer, column.now) else {
+        return Ok(());
+    };
+    let (name, address) = (family(column.way, column.part), peer.address.as_slice());
+    out.push(labelled(alloc, name, word(column.way), address, value)?)?;
+    Ok(())
+}
+
+/// Puts a part of what is told of each peer.
+fn put_column(
+    alloc: Global,
+    out: &mut Vec<Sample>,
+    column: Column,
+    peers: &[Meeting],
+) -> Result<(), AllocError>
+    ensures { OnOk result (out.new.items
+        ≡ out.old.items ++ flat_map (peer_sample column.way column.part column.now) peers.now) }
+{
+    for peer in peers {
+        put_peer(alloc, out, column, peer)?;
+    }
+    Ok(())
+}
+
+/// What is told of each peer: the samples of one name stand together.
+#[tactic(auto, unfolding(crate::specs::Samples::peer_samples))]
+fn of_peers(alloc: Global, way: Way, peers: &[Meeting], now: u64) -> Result<Vec<Sample>, AllocError>
+    ensures { IfOk result (λ samples. samples.items ≡ peer_samples way now peers.now) }
+{
+    let mut samples = Vec::new(alloc);
+    let since = Column::of(way, Part::SinceAgreed, now);
+    put_column(alloc, &mut samples, since, peers)?;
+    let agrees = Column::of(way, Part::Agrees, now);
+    put_column(alloc, &mut samples, agrees, peers)?;
+    let given = Column::of(way, Part::Given, now);
+    put_column(alloc, &mut samples, given, peers)?;
+    let taken = Column::of(way, Part::Taken, now);
+    put_column(alloc, &mut samples, taken, peers)?;
+    Ok(samples)
+}
+
+/// All that is told to who measures a server, of itself and of each peer that it calls, or that
+/// calls it.
 #[tactic(auto, unfolding(crate::specs::Samples::samples_in))]
-pub fn samples_of(alloc: Global, reading: Reading) -> Result<Vec<Sample>, AllocError>
-    ensures { IfOk result (λ samples. samples.items ≡ samples_in reading) }
+pub fn samples_of(
+    alloc: Global,
+    reading: Reading,
+    peers: &[Meeting],
+    callers: &[Meeting],
+) -> Result<Vec<Sample>, AllocError>
+    ensures { IfOk result (λ samples. samples.items ≡ samples_in reading peers.now callers.now) }
 {
     let meters = reading.meters;
     let mut out = of_site(alloc, reading)?;
@@ -241,5 +381,10 @@ pub fn samples_of(alloc: Global, reading: Reading) -> Result<Vec<Sample>, AllocE
     )?;
     put_all(&mut out, of_known(alloc, Family::StoreBytes, sizes.stored)?)?;
     put_all(&mut out, of_agreed(alloc, meters.agreed, reading.now)?)?;
+    put_all(&mut out, of_peers(alloc, Way::Called, peers, reading.now)?)?;
+    put_all(
+        &mut out,
+        of_peers(alloc, Way::Served, callers, reading.now)?,
+    )?;
     Ok(out)
 }
