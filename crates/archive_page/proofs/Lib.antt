@@ -1,3 +1,4 @@
 pub mod CharacterLaws
 pub mod EscapingLaws
+pub mod HostLaws
 pub mod PathLaws

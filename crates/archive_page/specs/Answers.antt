@@ -23,6 +23,7 @@ number_of Status.Ok = 200
 number_of Status.BadRequest = 400
 number_of Status.NotFound = 404
 number_of Status.MethodNotAllowed = 405
+number_of Status.MisdirectedRequest = 421
 number_of Status.ServiceUnavailable = 503
 
 -- an answer that tells a text

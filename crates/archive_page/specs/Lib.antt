@@ -1,6 +1,7 @@
 pub mod Answers
 pub mod Characters
 pub mod Escaping
+pub mod Hosts
 pub mod Links
 pub mod Listings
 pub mod Metrics

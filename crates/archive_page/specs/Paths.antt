@@ -3,11 +3,13 @@ use Rattle.std.specs.Prelude.{ℕ, ◌-◌, List, [], Option, Some, None, Bool, 
 use Rattle.octets.specs.Texts.{same}
 use Rattle.archive_page.specs.declared.asked.Asked.{Asked}
 use Rattle.archive_page.specs.declared.asked.Asked.TheVariants.{Page, Style, Health, Metrics, Nothing, Change}
+use Rattle.archive_page.specs.declared.asked.Asked.TheVariants.{Elsewhere}
 use Rattle.archive_page.specs.declared.subject.Form.{Form}
 use Rattle.archive_page.specs.declared.subject.Form.TheVariants.{Html, Json}
 use Rattle.archive_page.specs.declared.subject.Subject.{Subject}
 use Rattle.archive_page.specs.declared.subject.Subject.TheVariants.{Site, Studies, Rejected, Conflicts, Corrections}
 use Rattle.archive_page.specs.declared.subject.Subject.TheVariants.{Study}
+use Rattle.archive_page.specs.Hosts.{is_asked_here}
 
 -- the page in HTML that has a path
 abbrev pub html_at : List ℕ → Option Subject
@@ -89,3 +91,7 @@ is_reading method = same method (codes "GET") || same method (codes "HEAD")
 -- what a request asks for
 abbrev pub asked_of : List ℕ → List ℕ → Asked
 asked_of method path = cond (is_reading method) (at path) Change
+
+-- what a request asks for of the site that has these names: nothing of it where its host is another's
+abbrev pub asked_at : List (List ℕ) → Option (List ℕ) → List ℕ → List ℕ → Asked
+asked_at names host method path = cond (is_asked_here names host) (asked_of method path) Elsewhere

@@ -28,6 +28,7 @@ pub enum Status {
     BadRequest,
     NotFound,
     MethodNotAllowed,
+    MisdirectedRequest,
     ServiceUnavailable,
 }
 

@@ -1,13 +1,14 @@
-//! What a request asks for: its method and its path (RFC 9110, sections 7.1 and 9.3).
+//! What a request asks for: its host, its method and its path (RFC 9110, sections 7.1 and 9.3).
 
-ghost use Rattle.std.specs.Prelude.{◌≡◌};
+ghost use Rattle.std.specs.Prelude.{◌≡◌, map};
 ghost use Rattle.std.specs.Option.{option_copied};
 ghost use Rattle.octets.specs.Texts.{same};
 ghost use Rattle.archive_page.specs.Paths.{html_at, json_at, other_at, at};
 ghost use Rattle.archive_page.specs.Paths.{behind as behind_in, before as before_in, study_at};
 ghost use Rattle.archive_page.specs.Paths.{study_name as study_name_in};
-ghost use Rattle.archive_page.specs.Paths.{is_reading as is_reading_in, asked_of};
+ghost use Rattle.archive_page.specs.Paths.{is_reading as is_reading_in, asked_of, asked_at};
 
+use crate::host::is_asked_here;
 use crate::subject::{Form, Subject};
 
 /// What a request asks for.
@@ -22,6 +23,8 @@ pub enum Asked {
     Nothing,
     /// The method is neither GET nor HEAD.
     Change,
+    /// The host is none of the site's, whatever else is asked for.
+    Elsewhere,
 }
 
 /// Whether both have the same bytes.
@@ -175,5 +178,16 @@ impl Asked {
             return Asked::Change;
         }
         found(path)
+    }
+
+    /// What a request asks for that names this host, or none, of the site that has these names.
+    pub fn at(host: Option<&[u8]>, names: &[&str], method: &[u8], path: &[u8]) -> Asked
+        ensures { result ≡ asked_at (map (λ name. name.now) names.now)
+            (option_copied host.entry) method.now path.now }
+    {
+        if !is_asked_here(host, names) {
+            return Asked::Elsewhere;
+        }
+        Asked::of(method, path)
     }
 }
