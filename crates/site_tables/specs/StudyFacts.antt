@@ -51,7 +51,7 @@ fact_query uid = record {
 -- ---- what is told
 
 -- what an attribute is, and its value
-abbrev pub fact_row : List ℕ → ℕ → Set → List (List ℕ)
+unfoldable pub fact_row : List ℕ → ℕ → Set → List (List ℕ)
 fact_row what tag set = what ∷ value_or_none tag set ∷ []
 
 abbrev pub patient_rows : Set → List (List (List ℕ))
@@ -62,12 +62,16 @@ patient_rows set =
     ∷ fact_row (codes "sex") PATIENT_SEX set
     ∷ []
 
-abbrev pub attribute_rows : Set → List (List (List ℕ))
-attribute_rows set =
+abbrev pub moment_rows : Set → List (List (List ℕ))
+moment_rows set =
     fact_row (codes "date") STUDY_DATE set
     ∷ fact_row (codes "time") STUDY_TIME set
     ∷ fact_row (codes "description") STUDY_DESCRIPTION set
-    ∷ fact_row (codes "referring physician") REFERRING_PHYSICIAN_NAME set
+    ∷ []
+
+abbrev pub order_rows : Set → List (List (List ℕ))
+order_rows set =
+    fact_row (codes "referring physician") REFERRING_PHYSICIAN_NAME set
     ∷ fact_row (codes "accession number") ACCESSION_NUMBER set
     ∷ fact_row (codes "study ID") STUDY_ID set
     ∷ []
@@ -79,9 +83,9 @@ count_rows set =
     ∷ fact_row (codes "instances") NUMBER_OF_STUDY_RELATED_INSTANCES set
     ∷ []
 
--- what is told of its patient, of the study, and of what is in it
+-- what is told of its patient, of when and what it is, of its order, and of what is in it
 unfoldable pub fact_rows : Set → List (List (List ℕ))
-fact_rows set = patient_rows set ++ attribute_rows set ++ count_rows set
+fact_rows set = patient_rows set ++ moment_rows set ++ order_rows set ++ count_rows set
 
 -- what an answered study tells of itself
 abbrev pub facts_of : Set → StudyFacts

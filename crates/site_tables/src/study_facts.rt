@@ -3,7 +3,7 @@
 ghost use Rattle.std.specs.Prelude.{◌≡◌, ◌++◌, ◌∷◌, [], IfOk, OnOk};
 ghost use Rattle.site_state.specs.Site.{ops_of};
 ghost use Rattle.site_tables.specs.StudyFacts.{study_keys, patient_keys, uid_keys, fact_query as fact_query_in};
-ghost use Rattle.site_tables.specs.StudyFacts.{fact_row, patient_rows, attribute_rows, count_rows};
+ghost use Rattle.site_tables.specs.StudyFacts.{fact_row, patient_rows, moment_rows, order_rows, count_rows};
 ghost use Rattle.site_tables.specs.StudyFacts.{fact_rows as fact_rows_of, facts_of as facts_in, no_facts as none_of};
 ghost use Rattle.site_tables.specs.StudyFacts.{facts_among as facts_among_of, facts_by as facts_by_of, IsFound};
 
@@ -103,6 +103,7 @@ fn fact_query(alloc: Global, uid: &[u8]) -> Result<Query, AllocError>
 }
 
 /// Puts the row of an attribute.
+#[tactic(auto, unfolding(crate::specs::StudyFacts::fact_row))]
 fn put_fact(
     alloc: Global,
     what: &[u8],
@@ -129,13 +130,19 @@ fn put_patient(alloc: Global, set: &DataSet, rows: &mut ListOf<Row>) -> Result<(
     put_fact(alloc, b"sex", PATIENT_SEX, set, rows)
 }
 
-/// Puts what is told of the study.
-fn put_attributes(alloc: Global, set: &DataSet, rows: &mut ListOf<Row>) -> Result<(), AllocError>
-    ensures { OnOk result (rows.new ≡ rows.old ++ attribute_rows set.now) }
+/// Puts what is told of when the study is, and of what.
+fn put_moment(alloc: Global, set: &DataSet, rows: &mut ListOf<Row>) -> Result<(), AllocError>
+    ensures { OnOk result (rows.new ≡ rows.old ++ moment_rows set.now) }
 {
     put_fact(alloc, b"date", STUDY_DATE, set, rows)?;
     put_fact(alloc, b"time", STUDY_TIME, set, rows)?;
-    put_fact(alloc, b"description", STUDY_DESCRIPTION, set, rows)?;
+    put_fact(alloc, b"description", STUDY_DESCRIPTION, set, rows)
+}
+
+/// Puts what is told of its order.
+fn put_order(alloc: Global, set: &DataSet, rows: &mut ListOf<Row>) -> Result<(), AllocError>
+    ensures { OnOk result (rows.new ≡ rows.old ++ order_rows set.now) }
+{
     put_fact(
         alloc,
         b"referring physician",
@@ -169,7 +176,8 @@ fn fact_rows(alloc: Global, set: &DataSet) -> Result<ListOf<Row>, AllocError>
 {
     let mut rows = ListOf::new(alloc);
     put_patient(alloc, set, &mut rows)?;
-    put_attributes(alloc, set, &mut rows)?;
+    put_moment(alloc, set, &mut rows)?;
+    put_order(alloc, set, &mut rows)?;
     put_counts(alloc, set, &mut rows)?;
     Ok(rows)
 }
