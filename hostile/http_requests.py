@@ -13,9 +13,15 @@ PATHS = ["/", "/studies", "/studies.json", "/rejected", "/conflicts.json", "/cor
          "/health", "/correct", "/nothing", "/studies?page=2", "/studies?PatientName=DOE*&StudyDate=20240101-"]
 
 
+# Hosts that are none of the site's, or none at all.
+HOSTS = ["other", "site:80", "", "localhost.", "localhost.evil.example", "evil.example:11180", "127.1", "0x7f000001",
+         "127.0.0.1.evil.example", "127.0.0.01", "256.0.0.1", "[::1", "[evil]", "::1", "localhost:a", "127.0.0.1:80:80",
+         "localhost@evil.example", "loc\xe4lhost", "[::1].evil.example", "[fe80::1%25eth0]"]
+
+
 def asked(dice, method="GET", fields="", body=""):
     """A request for a page, which the desk refuses."""
-    return f"{method} {dice.choice(PATHS)} HTTP/1.1\r\nHost: site\r\n{fields}\r\n{body}".encode("latin-1")
+    return f"{method} {dice.choice(PATHS)} HTTP/1.1\r\nHost: localhost\r\n{fields}\r\n{body}".encode("latin-1")
 
 
 def p_lawful(dice):
@@ -35,7 +41,7 @@ def p_long(dice):
     """A request with a long path, a long field, thousands of fields, or a body of any length."""
     size = dice.choice([100, 4096, 8191, 8192, 8193, 70000])
     return dice.choice([
-        f"GET /{'a' * size} HTTP/1.1\r\nHost: site\r\n\r\n".encode(), asked(dice, "GET", f"X: {'a' * size}\r\n"),
+        f"GET /{'a' * size} HTTP/1.1\r\nHost: localhost\r\n\r\n".encode(), asked(dice, "GET", f"X: {'a' * size}\r\n"),
         asked(dice, "GET", "".join(f"X{i}: 1\r\n" for i in range(size // 4))),
         asked(dice, "POST", f"Content-Length: {dice.choice([0, 4096, 4097, 1 << 31, 1 << 64])}\r\n", "a" * size)])
 
@@ -53,9 +59,10 @@ def p_heads(dice):
     line = dice.choice(["GET / HTTP/1.0", "GET / HTTP/2.0", "GET  / HTTP/1.1", "GET / HTTP/1.1 ", "get / HTTP/1.1",
                         "GET /%zz HTTP/1.1", "OPTIONS * HTTP/1.1", "CONNECT site:80 HTTP/1.1", "/ HTTP/1.1",
                         "GET http://other/ HTTP/1.1", "GET /../studies HTTP/1.1", "GET /\xff HTTP/1.1"])
-    fields = dice.choice(["Host: site", "", "Host: a\r\nHost: b", "Host: <i>", " Host: site", "Host : site",
-                          "Host: site\r\n folded", "Host: site\r\nExpect: 100-continue",
-                          "Host: site\r\nUpgrade: websocket\r\nConnection: upgrade"])
+    fields = dice.choice(["Host: localhost", "", "Host: a\r\nHost: b", "Host: <i>", " Host: localhost", "Host : site",
+                          "Host: localhost\r\n folded", "Host: localhost\r\nExpect: 100-continue",
+                          f"Host: {dice.choice(HOSTS)}",
+                          "Host: localhost\r\nUpgrade: websocket\r\nConnection: upgrade"])
     return f"{line}\r\n{fields}\r\n\r\n".encode("latin-1")
 
 
@@ -68,11 +75,11 @@ WORDS = {"key": "HOSTILE", "tag": "00100010", "value": "HOSTILE", "target": "pat
 LAWFUL = urlencode(WORDS)
 
 
-def posted(body=LAWFUL, media=FORM, line="POST /correct HTTP/1.1", fields="", length=None):
+def posted(body=LAWFUL, media=FORM, line="POST /correct HTTP/1.1", fields="", length=None, host="localhost"):
     """A request at the desk, that for a lawful correction where nothing is said."""
     body = body if isinstance(body, bytes) else body.encode()
     length = f"Content-Length: {len(body)}\r\n" if length is None else length
-    return f"{line}\r\nHost: desk\r\nContent-Type: {media}\r\n{length}{fields}\r\n".encode("latin-1") + body
+    return f"{line}\r\nHost: {host}\r\nContent-Type: {media}\r\n{length}{fields}\r\n".encode("latin-1") + body
 
 
 def correction(key, value):
@@ -197,6 +204,11 @@ def d_fields(dice):
         "".join(f"X{i}: 1\r\n" for i in range(dice.choice([1000, 5000])))]))
 
 
+def d_hosts(dice):
+    """A lawful correction under a host that is none of the site's."""
+    return posted(host=dice.choice(HOSTS))
+
+
 def d_behind(dice):
     """Lawful corrections behind a request that is refused, over one connection."""
     front = dice.choice([asked(dice), posted("target=image"), posted(line="POST / HTTP/1.1"), posted(media="a/b")])
@@ -217,4 +229,4 @@ def d_slow(dice):
 
 PAGE_KINDS = [p_lawful, p_flipped, p_flipped, p_cut, p_long, p_chunked, p_heads, p_noise]
 DESK_KINDS = PAGE_KINDS + [d_cut, d_flipped, d_flipped, d_values, d_forms, d_objects, d_media, d_lengths, d_chunks,
-                           d_encodings, d_lines, d_fields, d_behind, d_noise]
+                           d_encodings, d_lines, d_fields, d_hosts, d_behind, d_noise]

@@ -5,9 +5,9 @@ _archive() {
         words="serve exchange correct report move verify simulate help --help --version"
     else
         case "${COMP_WORDS[1]} $before" in
-            *\ --listen | *\ --exchange | *\ --page | *\ --desk | *\ --peer | *\ --every | *\ --allow | *\ --exchange-allow | *\ --page-allow | *\ --desk-allow | *\ --calling | *\ --quality-calling | *\ --audit-calling | *\ --cache | *\ --idle | *\ --exchange-workers | *\ --workers | *\ --each | *\ --rounds | *\ --site | *\ --at) return ;;
+            *\ --listen | *\ --exchange | *\ --page | *\ --desk | *\ --peer | *\ --every | *\ --allow | *\ --exchange-allow | *\ --page-allow | *\ --desk-allow | *\ --name | *\ --calling | *\ --quality-calling | *\ --audit-calling | *\ --cache | *\ --idle | *\ --exchange-workers | *\ --workers | *\ --each | *\ --rounds | *\ --site | *\ --at) return ;;
             *\ --peer-version) words="1 2" ;;
-            serve\ *) words="--listen --workers --each --exchange --rounds --exchange-workers --page --desk --site --peer --every --allow --exchange-allow --page-allow --desk-allow --calling --quality-calling --audit-calling --cache --idle --until-end-of-input --show-without --verbose --help" ;;
+            serve\ *) words="--listen --workers --each --exchange --rounds --exchange-workers --page --desk --site --peer --every --allow --exchange-allow --page-allow --desk-allow --name --calling --quality-calling --audit-calling --cache --idle --until-end-of-input --show-without --verbose --help" ;;
             exchange\ *) words="--peer --peer-version --idle --help" ;;
             correct\ *) words="--site --at study patient series --help" ;;
             report\ *) words="--at --fingerprint --conflicts --rejected --corrections --studies --tsv --help" ;;

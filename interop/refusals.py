@@ -132,6 +132,8 @@ def try_words(refusals):
             refusals.refused(f"serve {option} {network!r}", refusals.serve(
                 refusals.new(), "", *SERVED, "--page", f"127.0.0.1:{free_port()}", "--desk",
                 f"127.0.0.1:{free_port()}", "--site", "1", option, network), 2, None)
+    for name in ("", "a b", "a_b", "a:80", "[::1]", "http://a", "\u00e9", "a" * 254):
+        refusals.refused(f"serve --name {name!r}", refusals.serve(refusals.new(), "", *SERVED, "--name", name), 2, None)
     many = [w for port in range(1, 65) for w in ("--peer", f"127.0.0.1:{port}")]
     refusals.refused("serve with a worker and 64 peers", refusals.serve(refusals.new(), "", *SERVED, *many), 2, None)
     for words in ([], ["nothing"], ["report"], ["exchange", refusals.new()], ["move", refusals.new()],

@@ -38,6 +38,7 @@ fn paging_at<'a>(
 ) -> Option<Paging<'a>>
     ensures networks { IfSome result (λ paging. paging.entrance.allowed.now
         ≡ named_or serving.now.page_allowed.items LOOPBACK.now) }
+    ensures names { IfSome result (λ paging. paging.names.now ≡ serving.now.names.items) }
 {
     match &listening.pages {
         None => None,
@@ -47,6 +48,7 @@ fn paging_at<'a>(
                 allowed: serving.page_networks(),
             },
             name: serving.file.as_bytes(),
+            names: serving.names.as_slice(),
             keys: door.keys,
             gauges,
         }),
@@ -57,6 +59,7 @@ fn paging_at<'a>(
 fn correcting_at<'a>(listening: &'a Listening, serving: &'a Serving<'_>) -> Option<Correcting<'a>>
     ensures networks { IfSome result (λ correcting. correcting.entrance.allowed.now
         ≡ named_or serving.now.desk_allowed.items LOOPBACK.now) }
+    ensures names { IfSome result (λ correcting. correcting.names.now ≡ serving.now.names.items) }
     ensures site { IfSome result (λ correcting. IfSome serving.now.desk (λ desk.
         correcting.site ≡ desk.site)) }
 {
@@ -67,6 +70,7 @@ fn correcting_at<'a>(listening: &'a Listening, serving: &'a Serving<'_>) -> Opti
                 allowed: serving.desk_networks(),
             },
             site: desk.site,
+            names: serving.names.as_slice(),
             keys: door.keys,
         }),
         _ => None,

@@ -11,7 +11,8 @@ use Rattle.std.proofs.NetLemmas.Ipv6.{read_ipv6_sound, read_ipv6_complete, EndsG
 use Rattle.archive_page.specs.Hosts.{is_ipv4, is_ipv6}
 
 -- where nothing stands behind what was read, it was the whole text, and else it was not
-none_whole : {A : Type 0} (value : A) (rest : List ℕ) → (rest ≡ [] → ⊥) → false ≡ is_some (whole_value (Some (value, rest)))
+none_whole : {A : Type 0} (value : A) (rest : List ℕ) → (rest ≡ [] → ⊥)
+    → false ≡ is_some (whole_value (Some (value, rest)))
 none_whole value [] some = absurd (some refl)
 none_whole value (byte ∷ rest) some = rw (ne_eqb (length (byte ∷ rest)) 0 (omega arith)) refl
 

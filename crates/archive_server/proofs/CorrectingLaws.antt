@@ -1,5 +1,5 @@
 -- Laws of a clerk at the desk.
-use Rattle.std.proofs.Common.{◌≡◌, ◌∙◌, ℕ, List, [], ◌∷◌, ◌++◌, refl, sym, ap, subst}
+use Rattle.std.proofs.Common.{◌≡◌, ◌∙◌, ℕ, List, [], ◌∷◌, ◌++◌, Bor, refl, sym, ap, subst}
 use Rattle.http_server.specs.Exchange.{Call, Chain}
 use Rattle.http_server.specs.History.{History}
 use Rattle.site_state.specs.Site.{Map}
@@ -11,16 +11,19 @@ use Rattle.archive_server.specs.Done.{Standing}
 use Rattle.archive_server.specs.Correcting.{at_desk, AreAnswered, HasAnswered, HasCorrected}
 use Rattle.archive_server.specs.Serving.{HasGoneOn}
 
-abbrev desk_with : Seat → List (List ℕ) → ℕ → ℕ → AtDesk
-desk_with pass known site last = record { pass = pass; known = known; site = site; last = last }
+abbrev desk_with : Seat → List (List ℕ) → List (List ℕ) → ℕ → ℕ → AtDesk
+desk_with pass known names site last =
+    record { pass = pass; known = known; names = names; site = site; last = last }
 
 -- two desks are the same where their parts are
-pub same_desk : (a b : AtDesk) → a.pass ≡ b.pass → a.known ≡ b.known → a.site ≡ b.site → a.last ≡ b.last → a ≡ b
-same_desk a b p q r s =
-    ap (λ (x : Seat). desk_with x a.known a.site a.last) p
-    ∙ ap (λ (x : List (List ℕ)). desk_with b.pass x a.site a.last) q
-    ∙ ap (λ (x : ℕ). desk_with b.pass b.known x a.last) r
-    ∙ ap (λ (x : ℕ). desk_with b.pass b.known b.site x) s
+pub same_desk : (a b : AtDesk) → a.pass ≡ b.pass → a.known ≡ b.known → a.names ≡ b.names → a.site ≡ b.site
+    → a.last ≡ b.last → a ≡ b
+same_desk a b p q n r s =
+    ap (λ (x : Seat). desk_with x a.known a.names a.site a.last) p
+    ∙ ap (λ (x : List (List ℕ)). desk_with b.pass x a.names a.site a.last) q
+    ∙ ap (λ (x : List (List ℕ)). desk_with b.pass b.known x a.site a.last) n
+    ∙ ap (λ (x : ℕ). desk_with b.pass b.known b.names x a.last) r
+    ∙ ap (λ (x : ℕ). desk_with b.pass b.known b.names b.site x) s
 
 -- what a desk answered, the clerk answered of whom it was made, and who was made of it
 pub answered_as : (opening : Map) (first last before after : AtDesk) (h : History) → first ≡ before → after ≡ last
@@ -39,11 +42,11 @@ pub answered_self : (opening : Map) (d : AtDesk) → HasAnswered opening d d
 answered_self opening d = ([], refl)
 
 -- nor where the clerk is the same
-pub answered_none : (opening : Map) (before after : Standing) (stamps : Stamps) → after ≡ before
-    → HasAnswered opening (at_desk before stamps) (at_desk after stamps)
-answered_none opening before after stamps same =
-    subst (λ (s : Standing). HasAnswered opening (at_desk before stamps) (at_desk s stamps)) (sym same)
-    (answered_self opening (at_desk before stamps))
+pub answered_none : (opening : Map) (names : List (Bor (List ℕ))) (before after : Standing) (stamps : Stamps)
+    → after ≡ before → HasAnswered opening (at_desk names before stamps) (at_desk names after stamps)
+answered_none opening names before after stamps same =
+    subst (λ (s : Standing). HasAnswered opening (at_desk names before stamps) (at_desk names s stamps)) (sym same)
+    (answered_self opening (at_desk names before stamps))
 
 chain_on : (opening : Map) (xs ys : List Call) (a b c : AtDesk)
     → Chain (λ old request response new. AnswersAt opening old request response new) a xs b
@@ -59,19 +62,20 @@ pub answered_trans : (opening : Map) (a b c : AtDesk) → HasAnswered opening a 
 answered_trans opening a b c p q = (p.0 ++ q.0, chain_on opening p.0 q.0 a b c p.1 q.1)
 
 -- the same of clerks that are named otherwise
-pub answered_on : (opening : Map) (first clerk before after last : Standing) (stamps used made : Stamps)
-    → HasAnswered opening (at_desk first stamps) (at_desk clerk used) → before ≡ clerk
-    → HasAnswered opening (at_desk before used) (at_desk after made) → last ≡ after
-    → HasAnswered opening (at_desk first stamps) (at_desk last made)
-answered_on opening first clerk before after last stamps used made p same q ends =
-    subst (λ (s : Standing). HasAnswered opening (at_desk first stamps) (at_desk s made)) (sym ends)
-    (answered_trans opening (at_desk first stamps) (at_desk clerk used) (at_desk after made) p
-    (subst (λ (s : Standing). HasAnswered opening (at_desk s used) (at_desk after made)) same q))
+pub answered_on : (opening : Map) (names : List (Bor (List ℕ))) (first clerk before after last : Standing)
+    (stamps used made : Stamps)
+    → HasAnswered opening (at_desk names first stamps) (at_desk names clerk used) → before ≡ clerk
+    → HasAnswered opening (at_desk names before used) (at_desk names after made) → last ≡ after
+    → HasAnswered opening (at_desk names first stamps) (at_desk names last made)
+answered_on opening names first clerk before after last stamps used made p same q ends =
+    subst (λ (s : Standing). HasAnswered opening (at_desk names first stamps) (at_desk names s made)) (sym ends)
+    (answered_trans opening (at_desk names first stamps) (at_desk names clerk used) (at_desk names after made) p
+    (subst (λ (s : Standing). HasAnswered opening (at_desk names s used) (at_desk names after made)) same q))
 
 -- a clerk that served at a desk has gone on
-pub corrected_gone : (opening : Map) (site : ℕ) (before after : Standing) → HasCorrected opening site before after
-    → HasGoneOn before after
-corrected_gone opening site before after corrected =
-    let goes = chain_goes opening corrected.1.0 (at_desk before (record { site = site; last = 0 }))
-    (at_desk after corrected.0) corrected.1.1 in
+pub corrected_gone : (opening : Map) (names : List (Bor (List ℕ))) (site : ℕ) (before after : Standing)
+    → HasCorrected opening names site before after → HasGoneOn before after
+corrected_gone opening names site before after corrected =
+    let goes = chain_goes opening corrected.1.0 (at_desk names before (record { site = site; last = 0 }))
+    (at_desk names after corrected.0) corrected.1.1 in
     record { onward = goes.onward; known = goes.known }

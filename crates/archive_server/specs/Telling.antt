@@ -1,5 +1,6 @@
 -- What pages are told from: a look of a pass, and what the server knows of itself.
-use Rattle.std.specs.Prelude.{◌≡◌, ◌⊎◌, ℕ, List, [], Option, is_none}
+use Rattle.std.specs.Prelude.{◌≡◌, ◌⊎◌, ℕ, List, [], Option, is_none, map}
+use Rattle.std.specs.Borrow.{Bor}
 use Rattle.http_server.specs.Exchange.{Calls}
 use Rattle.http_server.specs.History.{History}
 use Rattle.site_state.specs.declared.counts.Counts.{Counts}
@@ -39,18 +40,20 @@ abbrev pub AreSamplesOf : Map → Seat → Knowledge → List Sample → Type 0
 AreSamplesOf opening seat known samples =
     (samples ≡ []) ⊎ (samples ≡ samples_in (reading_in (counts_of (ops_of (set_of opening seat.seen))) known))
 
--- A source of pages that is called so was made of a look of a pass, and of what its server knows.
-pub record IsSourceOf (opening : Map) (site : List ℕ) (known : Knowledge) (seat : Seat) (source : HubSource)
-    : Type 0 where
+-- A source of pages that is called so, and has these names, was made of a look of a pass, and of what its server knows.
+pub record IsSourceOf (opening : Map) (site : List ℕ) (names : List (Bor (List ℕ))) (known : Knowledge) (seat : Seat)
+    (source : HubSource) : Type 0 where
   pub looked : HasLooked seat source.pass
   pub name : source.name ≡ site
+  pub names : source.names ≡ map (λ name. name.now) names
   pub fault : source.fault ≡ known.refusal
   pub facts : source.facts ≡ known.facts
   pub samples : AreSamplesOf opening source.pass known source.samples
 
 -- each request of a connection was answered from such a source
-pub record AreTold (opening : Map) (site : List ℕ) (known : Knowledge) (seat : Seat) (h : History) : Type 0 where
+pub record AreTold (opening : Map) (site : List ℕ) (names : List (Bor (List ℕ))) (known : Knowledge) (seat : Seat)
+    (h : History) : Type 0 where
   pub source : HubSource
   pub after : HubSource
-  pub made : IsSourceOf opening site known seat source
+  pub made : IsSourceOf opening site names known seat source
   pub calls : Calls (AnswersFrom opening) source after [] h.calls

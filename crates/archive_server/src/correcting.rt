@@ -32,10 +32,12 @@ use std::net::SocketAddr;
 use std::sync::Wait;
 use std::time::{Clock, Duration};
 
-/// Where corrections are asked for, and the number of the site, which their stamps carry.
+/// Where corrections are asked for, the names by which the site may be asked, and its number, which
+/// their stamps carry.
 #[derive(Clone, Copy)]
 pub struct Correcting<'a> {
     pub entrance: Entrance<'a>,
+    pub names: &'a [&'a str],
     pub site: u16,
     /// Keys that nobody can guess, for the tables that a request is read into.
     pub keys: RandomState,
@@ -55,8 +57,8 @@ fn with_peer<'x, H: HubName, T: Shows<H>, R: Wait + Drop, S: Wait + Clock + Log,
 ) -> (Done<H, N>, Stamps)
     requires room { done.accepted + done.failed < 2 ^ 64 - 1 }
     requires allowed { may_come correcting.entrance.allowed.now peer ≡ true }
-    ensures answered { HasAnswered H.opening (at_desk done.clerk stamps)
-        (at_desk result.0.clerk result.1) }
+    ensures answered { HasAnswered H.opening (at_desk correcting.entry.names.now done.clerk stamps)
+        (at_desk correcting.entry.names.now result.0.clerk result.1) }
     ensures accepted { result.0.accepted ≡ done.accepted + 1 }
     ensures failed { result.0.failed ≡ done.failed }
 {
@@ -70,7 +72,7 @@ fn with_peer<'x, H: HubName, T: Shows<H>, R: Wait + Drop, S: Wait + Clock + Log,
     let (done, used, _served) = done.with_corrections(
         &hall.archive,
         shelf,
-        correcting.keys,
+        correcting,
         stamps,
         &mut reader,
         &mut writer,
@@ -100,8 +102,8 @@ fn with_entered<'x, H: HubName, T: Shows<H>, R: Wait + Drop, S: Wait + Clock + L
 ) -> (Done<H, N>, Stamps)
     requires room { done.accepted + done.failed < 2 ^ 64 - 1 }
     requires ruled { IfOk came (IsAsAllowed correcting.entrance.allowed.now) }
-    ensures answered { HasAnswered H.opening (at_desk done.clerk stamps)
-        (at_desk result.0.clerk result.1) }
+    ensures answered { HasAnswered H.opening (at_desk correcting.entry.names.now done.clerk stamps)
+        (at_desk correcting.entry.names.now result.0.clerk result.1) }
     ensures used { result.0.accepted + result.0.failed ≡ done.accepted + done.failed + 1 }
 {
     match came {
@@ -128,8 +130,8 @@ fn accept_one<'x, H: HubName, T: Shows<H>, R: Wait + Drop, S: Wait + Clock + Log
     stamps: Stamps,
     clerk: Clerk<H, N>,
 ) -> (Done<H, N>, Stamps, Duration)
-    ensures answered { HasAnswered H.opening (at_desk clerk stamps)
-        (at_desk result.0.clerk result.1) }
+    ensures answered { HasAnswered H.opening (at_desk correcting.entry.names.now clerk stamps)
+        (at_desk correcting.entry.names.now result.0.clerk result.1) }
 {
     let done = Done::nothing(clerk, None);
     let came = accept_from(correcting.entrance, Some(turn()));
@@ -159,8 +161,8 @@ fn accept_again<
     stamps: Stamps,
     clerk: Clerk<H, N>,
 ) -> (Done<H, N>, Stamps)
-    ensures answered { HasAnswered H.opening (at_desk clerk stamps)
-        (at_desk result.0.clerk result.1) }
+    ensures answered { HasAnswered H.opening (at_desk correcting.entry.names.now clerk stamps)
+        (at_desk correcting.entry.names.now result.0.clerk result.1) }
     ensures again { GoesOnWhileServed (C.turns pauses.old) (C.turns pauses.new) }
 {
     let mut onward = clerk;
@@ -194,7 +196,8 @@ pub(crate) fn correct_all<
     ended: Receiver<()>,
     clerk: Clerk<H, N>,
 ) -> Done<H, N>
-    ensures corrected { HasCorrected H.opening correcting.entry.site clerk result.clerk }
+    ensures corrected { HasCorrected H.opening correcting.entry.names.now
+        correcting.entry.site clerk result.clerk }
 {
     if lets_accepts_end(correcting.entrance.listener).is_err() {
         return Done::nothing(clerk, Some(ServeFault::Net(NetFault::Accept)));

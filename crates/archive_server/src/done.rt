@@ -21,6 +21,7 @@ use crate::ahead::Brings;
 use crate::attending::{Archive, Attended, serve_association};
 use crate::clerk::Clerk;
 use crate::conversing::{Conversed, serve_exchange};
+use crate::correcting::Correcting;
 use crate::entrance::Entrance;
 use crate::fault::{NetFault, ServeFault};
 use crate::known::Known;
@@ -36,7 +37,6 @@ use site_desk::Stamps;
 use site_hub::{HubName, Shows};
 use site_pages::Tally;
 use std::alloc::Global;
-use std::hash::RandomState;
 use std::io;
 use std::io::{Read, Write};
 use std::marker::Model;
@@ -249,7 +249,8 @@ impl<H: HubName, N: LedgerName> Done<H, N> {
         requires room { self.accepted + self.failed < 2 ^ 64 - 1 }
         ensures looked { HasOnlyLooked self.clerk result.0.clerk }
         ensures served { (h : History) × ∥ IsServed page_config h ∥₁
-            × AreTold H.opening paging.entry.name.now known.now self.clerk.pass h
+            × AreTold H.opening paging.entry.name.now paging.entry.names.now known.now
+            self.clerk.pass h
             × Consumes (I.remaining reader.old) (I.remaining reader.new) h.received
             × Appends (O.contents writer.old) (O.contents writer.new) h.sent
             × OnOk result.1 (IsDone h) }
@@ -282,14 +283,15 @@ impl<H: HubName, N: LedgerName> Done<H, N> {
         self,
         archive: &Archive<'_, H, T, R, S>,
         shelf: P,
-        keys: RandomState,
+        correcting: Correcting<'_>,
         stamps: Stamps,
         reader: &mut I,
         writer: &mut O,
     ) -> (Done<H, N>, Stamps, io::Result<()>)
         requires room { self.accepted + self.failed < 2 ^ 64 - 1 }
         ensures served { (h : History) × ∥ IsServed desk_config h ∥₁
-            × AreAnswered H.opening (at_desk self.clerk stamps) (at_desk result.0.clerk result.1) h
+            × AreAnswered H.opening (at_desk correcting.entry.names.now self.clerk stamps)
+            (at_desk correcting.entry.names.now result.0.clerk result.1) h
             × Consumes (I.remaining reader.old) (I.remaining reader.new) h.received
             × Appends (O.contents writer.old) (O.contents writer.new) h.sent
             × OnOk result.2 (IsDone h) }
@@ -304,7 +306,7 @@ impl<H: HubName, N: LedgerName> Done<H, N> {
             fault,
         } = self;
         let (clerk, stamps, served) = tell_desk(
-            archive, shelf, keys, stamps, reader, writer, clerk,
+            archive, shelf, correcting, stamps, reader, writer, clerk,
         );
         (
             Done::with_one(clerk, accepted, failed, fault),

@@ -36,6 +36,8 @@ pub struct Paging<'a> {
     pub entrance: Entrance<'a>,
     /// What the site is called.
     pub name: &'a [u8],
+    /// The names by which it may be asked.
+    pub names: &'a [&'a str],
     /// Keys that nobody can guess, for the tables that a request is read into.
     pub keys: RandomState,
     /// By which it tells how much it takes of its machine.

@@ -8,10 +8,10 @@ ghost use Rattle.archive_server.specs.Correcting.{at_desk, AreAnswered};
 
 use crate::attending::Archive;
 use crate::clerk::Clerk;
+use crate::correcting::Correcting;
 use hub_exchange::{LedgerName, Put};
 use site_desk::{SiteDesk, Stamps, serve_desk};
 use site_hub::{HubName, Shows};
-use std::hash::RandomState;
 use std::io;
 use std::io::{Read, Write};
 use std::sync::Wait;
@@ -31,22 +31,24 @@ pub(crate) fn tell_desk<
 >(
     archive: &Archive<'_, H, T, R, S>,
     shelf: P,
-    keys: RandomState,
+    correcting: Correcting<'_>,
     stamps: Stamps,
     reader: &mut I,
     writer: &mut O,
     clerk: Clerk<H, N>,
 ) -> (Clerk<H, N>, Stamps, io::Result<()>)
     ensures served { (h : History) × ∥ IsServed desk_config h ∥₁
-        × AreAnswered H.opening (at_desk clerk stamps) (at_desk result.0 result.1) h
+        × AreAnswered H.opening (at_desk correcting.entry.names.now clerk stamps)
+        (at_desk correcting.entry.names.now result.0 result.1) h
         × Consumes (I.remaining reader.old) (I.remaining reader.new) h.received
         × Appends (O.contents writer.old) (O.contents writer.new) h.sent
         × OnOk result.2 (IsDone h) }
 {
     let (rt, alloc, keeper) = (archive.rt, archive.alloc, archive.keeper);
     let (pass, extract) = clerk.into_parts();
-    let mut desk = SiteDesk::new(rt, alloc, keeper, shelf, pass, extract, stamps);
-    let served = serve_desk(alloc, keys, &mut desk, reader, writer);
+    let names = correcting.names;
+    let mut desk = SiteDesk::new(rt, alloc, keeper, shelf, pass, extract, names, stamps);
+    let served = serve_desk(alloc, correcting.keys, &mut desk, reader, writer);
     let (pass, extract, last) = desk.into_parts();
     let site = stamps.site;
     (Clerk::new(pass, extract), Stamps { site, last }, served)

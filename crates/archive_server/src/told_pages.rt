@@ -1,6 +1,6 @@
 //! A connection on which pages are asked for: what is counted first, and then what is answered.
 
-ghost use Rattle.std.specs.Prelude.{◌≡◌, OnOk};
+ghost use Rattle.std.specs.Prelude.{◌≡◌, OnOk, map};
 ghost use Rattle.std.specs.Io.KnownBytes.{Appends, Consumes};
 ghost use Rattle.http_server.specs.History.{History, IsServed, IsDone};
 ghost use Rattle.site_pages.specs.Serving.{page_config};
@@ -32,11 +32,13 @@ fn bytes_of(words: Option<&'static str>) -> Option<&'static [u8]>
 fn source_of<'a, H: HubName>(
     pass: Pass<H>,
     name: &'a [u8],
+    names: &'a [&'a str],
     known: &'a Known,
     samples: &'a [Sample],
 ) -> HubPages<'a, H>
     ensures pass { result.pass ≡ pass }
     ensures name { result.name ≡ name.now }
+    ensures names { result.names ≡ map (λ name. name.now) names.now }
     ensures fault { result.fault ≡ known.now.refusal }
     ensures facts { result.facts ≡ known.now.facts }
     ensures samples { result.samples ≡ samples.now }
@@ -44,6 +46,7 @@ fn source_of<'a, H: HubName>(
     HubPages {
         pass,
         name,
+        names,
         fault: bytes_of(known.refusal),
         facts: known.facts.as_slice(),
         samples,
@@ -70,14 +73,14 @@ pub(crate) fn tell_pages<H: HubName, I: Read, O: Write>(
 ) -> (Pass<H>, io::Result<()>)
     ensures looked { HasLooked pass result.0 }
     ensures served { (h : History) × ∥ IsServed page_config h ∥₁
-        × AreTold H.opening paging.entry.name.now known.now pass h
+        × AreTold H.opening paging.entry.name.now paging.entry.names.now known.now pass h
         × Consumes (I.remaining reader.old) (I.remaining reader.new) h.received
         × Appends (O.contents writer.old) (O.contents writer.new) h.sent
         × OnOk result.1 (IsDone h) }
 {
     let mut onward = pass;
     let samples = counted(alloc, &mut onward, known);
-    let source = source_of(onward, paging.name, known, samples.as_slice());
+    let source = source_of(onward, paging.name, paging.names, known, samples.as_slice());
     let (source, served) = serve_hub_pages(alloc, paging.keys, source, reader, writer);
     (pass_of(source), served)
 }

@@ -60,6 +60,7 @@ pub record HasLists (rows : List Row) (serving : Serving) : Type 0 where
   pub exchange_allowed : AreNetworks (all_at rows (codes "exchange-allow")) serving.exchange_allowed.items
   pub page_allowed : AreNetworks (all_at rows (codes "page-allow")) serving.page_allowed.items
   pub desk_allowed : AreNetworks (all_at rows (codes "desk-allow")) serving.desk_allowed.items
+  pub names : map (λ name. name.now) serving.names.items ≡ all_at rows (codes "name")
   pub callers : map (λ caller. caller.now) serving.callers.items ≡ all_at rows (codes "calling")
   pub quality_callers : map (λ caller. caller.now) serving.quality_callers.items
       ≡ all_at rows (codes "quality-calling")

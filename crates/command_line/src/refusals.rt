@@ -43,6 +43,11 @@ const BAD_TITLE: Refusal = Refusal {
         characters, no backslash and no outer space",
 };
 
+const BAD_NAME: Refusal = Refusal {
+    kind: ErrorKind::InvalidValue,
+    text: "--name wants 1 to 253 letters, digits, hyphens and dots",
+};
+
 pub(crate) const BAD_FORM: Refusal = Refusal {
     kind: ErrorKind::InvalidValue,
     text: "TARGET is study, patient or series, and TAG eight hexadecimal digits",
@@ -89,6 +94,17 @@ fn is_title(text: &str) -> bool {
         && bytes.last() != Some(&b' ')
 }
 
+/// Whether a byte may stand in the name of a host (RFC 1123, section 2.1).
+fn is_in_name(byte: u8) -> bool {
+    byte.is_ascii_alphanumeric() || byte == b'-' || byte == b'.'
+}
+
+/// Whether a word is 1 to 253 such bytes (RFC 1035, section 2.3.4).
+fn is_name(text: &str) -> bool {
+    let bytes = text.as_bytes();
+    1 <= bytes.len() && bytes.len() <= 253 && bytes.iter().all(|byte| is_in_name(*byte))
+}
+
 /// Why a value is refused, where it has not its form.
 fn refusal_of_value(form: Form, text: &str) -> Option<Refusal> {
     match form {
@@ -98,6 +114,7 @@ fn refusal_of_value(form: Form, text: &str) -> Option<Refusal> {
         }),
         Form::Network if read_network(text).is_none() => Some(BAD_NETWORK),
         Form::Title if !is_title(text) => Some(BAD_TITLE),
+        Form::Name if !is_name(text) => Some(BAD_NAME),
         _ => None,
     }
 }

@@ -30,6 +30,8 @@ pub(crate) enum Form {
     Network,
     /// An AE title.
     Title,
+    /// The name of a host.
+    Name,
 }
 
 /// A word or an option of a command.

@@ -188,6 +188,18 @@ pub(crate) const SERVE_ROWS: &[Row] = &[
         ..NETWORK
     },
     Row {
+        name: "name",
+        value: "NAME",
+        form: Form::Name,
+        heading: Some("Who may come"),
+        line: "A name of the site in a browser [default: none]",
+        whole: Some(
+            "A name by which pages and the desk may be asked beside their addresses \
+            and{n}localhost, which can be given again{n}{n}[default: none]",
+        ),
+        ..VALUES
+    },
+    Row {
         name: "calling",
         line: "A title that may call [default: any]",
         whole: Some(

@@ -174,6 +174,7 @@ fn read_lists<'a>(
     serving.exchange_allowed = networks_in(alloc, found, "exchange-allow")?;
     serving.page_allowed = networks_in(alloc, found, "page-allow")?;
     serving.desk_allowed = networks_in(alloc, found, "desk-allow")?;
+    serving.names = texts_in(alloc, found, "name")?;
     serving.callers = texts_in(alloc, found, "calling")?;
     serving.quality_callers = texts_in(alloc, found, "quality-calling")?;
     serving.audit_callers = texts_in(alloc, found, "audit-calling")?;
@@ -200,6 +201,7 @@ fn server_of<'a>(alloc: Global, found: &ArgMatches<'a>) -> Serving<'a>
         exchange_allowed: Vec::new(alloc),
         page_allowed: Vec::new(alloc),
         desk_allowed: Vec::new(alloc),
+        names: Vec::new(alloc),
         callers: Vec::new(alloc),
         quality_callers: Vec::new(alloc),
         audit_callers: Vec::new(alloc),

@@ -83,6 +83,8 @@ pub struct Serving<'a> {
     pub page_allowed: Vec<Network>,
     /// From where corrections may be, likewise.
     pub desk_allowed: Vec<Network>,
+    /// The names by which pages and the desk may be asked, beside addresses and `localhost`.
+    pub names: Vec<&'a str>,
     /// The calling titles that may ask for an association. Where none is named any may.
     pub callers: Vec<&'a str>,
     /// Those that may call QUALITY, and AUDIT. Where none is named those above may.

@@ -15,6 +15,7 @@ pub goes_self : (d : AtDesk) → GoesOn d d
 goes_self d = record {
   onward = onward_self (WasWritten d.known) d.pass;
   known = prefix_self d.known;
+  names = refl;
   site = refl;
   last = omega arith;
 }
@@ -23,6 +24,7 @@ pub goes_trans : (a b c : AtDesk) → GoesOn a b → GoesOn b c → GoesOn a c
 goes_trans a b c p q = record {
   onward = onward_learned b.known c.known c.known a.pass b.pass c.pass q.known (prefix_self c.known) p.onward q.onward;
   known = prefix_trans a.known b.known c.known p.known q.known;
+  names = q.names ∙ p.names;
   site = q.site ∙ p.site;
   last = omega (arith, p.last, q.last);
 }

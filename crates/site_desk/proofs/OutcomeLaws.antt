@@ -34,22 +34,23 @@ no_fault_in line (fault ∷ faults) isnt = one_more line fault faults _ refl (no
 
 -- what holds of all reasons holds of each
 of_each : (P : DeskFault → Type 0) (fault : DeskFault) → AllByRecursion P all_faults → P fault
-of_each P Fault.NoPath all = all.0
-of_each P Fault.NoPost all = all.1.0
-of_each P Fault.HasOrigin all = all.1.1.0
-of_each P Fault.NoKind all = all.1.1.1.0
-of_each P Fault.NoForm all = all.1.1.1.1.0
-of_each P Fault.NoObject all = all.1.1.1.1.1.0
-of_each P Fault.NoChange all = all.1.1.1.1.1.1.0
-of_each P Fault.BadKey all = all.1.1.1.1.1.1.1.0
-of_each P Fault.BadTag all = all.1.1.1.1.1.1.1.1.0
-of_each P Fault.BadValue all = all.1.1.1.1.1.1.1.1.1.0
-of_each P Fault.NoSite all = all.1.1.1.1.1.1.1.1.1.1.0
-of_each P Fault.StampsSpent all = all.1.1.1.1.1.1.1.1.1.1.1.0
-of_each P Fault.Shelf all = all.1.1.1.1.1.1.1.1.1.1.1.1.0
-of_each P Fault.Busy all = all.1.1.1.1.1.1.1.1.1.1.1.1.1.0
-of_each P Fault.Unshown all = all.1.1.1.1.1.1.1.1.1.1.1.1.1.1.0
-of_each P Fault.Memory all = all.1.1.1.1.1.1.1.1.1.1.1.1.1.1.1.0
+of_each P Fault.ForeignHost all = all.0
+of_each P Fault.NoPath all = all.1.0
+of_each P Fault.NoPost all = all.1.1.0
+of_each P Fault.HasOrigin all = all.1.1.1.0
+of_each P Fault.NoKind all = all.1.1.1.1.0
+of_each P Fault.NoForm all = all.1.1.1.1.1.0
+of_each P Fault.NoObject all = all.1.1.1.1.1.1.0
+of_each P Fault.NoChange all = all.1.1.1.1.1.1.1.0
+of_each P Fault.BadKey all = all.1.1.1.1.1.1.1.1.0
+of_each P Fault.BadTag all = all.1.1.1.1.1.1.1.1.1.0
+of_each P Fault.BadValue all = all.1.1.1.1.1.1.1.1.1.1.0
+of_each P Fault.NoSite all = all.1.1.1.1.1.1.1.1.1.1.1.0
+of_each P Fault.StampsSpent all = all.1.1.1.1.1.1.1.1.1.1.1.1.0
+of_each P Fault.Shelf all = all.1.1.1.1.1.1.1.1.1.1.1.1.1.0
+of_each P Fault.Busy all = all.1.1.1.1.1.1.1.1.1.1.1.1.1.1.0
+of_each P Fault.Unshown all = all.1.1.1.1.1.1.1.1.1.1.1.1.1.1.1.0
+of_each P Fault.Memory all = all.1.1.1.1.1.1.1.1.1.1.1.1.1.1.1.1.0
 
 -- the line is that of no reason
 pub no_fault : (line : List ℕ) (fault : DeskFault) → fault_by line all_faults ≡ None → line ≢ refusal_line fault

@@ -60,7 +60,7 @@ of_change opening before after words change (Err fault) asks why = inr (change, 
 
 -- and not of the request that says them
 pub of_words : {A : Type 0} (opening : Map) (before after : AtDesk) (request : Request (List ℕ)) (words : Words)
-    (result : Result A DeskFault) → Says (posting_of request) words
+    (result : Result A DeskFault) → Says (posting_of before.names request) words
     → IfErr result (WhyRefused opening before words after) → IfErr result (WhyNone opening before request after)
 of_words opening before after request words (Ok made) says why = tt
 of_words opening before after request words (Err fault) says why = inr (words, says, why)

@@ -15,6 +15,7 @@ number_of Status.NotFound = 404
 number_of Status.MethodNotAllowed = 405
 number_of Status.Conflict = 409
 number_of Status.UnsupportedMediaType = 415
+number_of Status.MisdirectedRequest = 421
 number_of Status.ServiceUnavailable = 503
 
 -- the stamp of a correction that was made, as `archive correct` prints it

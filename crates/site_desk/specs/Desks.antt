@@ -24,11 +24,12 @@ use Rattle.site_desk.specs.Making.{change_of, next_over, AsksNone, IsOfPart}
 use Rattle.site_desk.specs.Requests.{posting_of}
 use Rattle.site_desk.specs.Responses.{Responds}
 
--- a desk: its pass, what is known of the shelf's ledger, the number of the site, and the greatest counter that it has
--- made
+-- a desk: its pass, what is known of the shelf's ledger, the names of the site, its number, and the greatest counter
+-- that it has made
 pub record AtDesk : Type 0 where
   pub pass : Seat
   pub known : List (List ℕ)
+  pub names : List (List ℕ)
   pub site : ℕ
   pub last : ℕ
 
@@ -37,6 +38,7 @@ pub record AtDesk : Type 0 where
 pub record GoesOn (before after : AtDesk) : Type 0 where
   pub onward : IsOnward (WasWritten after.known) before.pass after.pass
   pub known : IsPrefix before.known after.known
+  pub names : after.names ≡ before.names
   pub site : after.site ≡ before.site
   pub last : before.last ≤ after.last
 
@@ -70,15 +72,15 @@ pub record MakesNone (opening : Map) (before : AtDesk) (asks : Change → Type 0
       × ((parts : CorrectionParts) × Stores opening before change after parts)
   pub kept : (fault ≡ Unshown) ⊎ HasLooked before.pass after.pass
 
--- the words of a request ask for a change
-abbrev pub Asks : Request (List ℕ) → Change → Type 0
-Asks request change = (words : Words) × Says (posting_of request) words × (change_of words ≡ Some change)
+-- the words of a request ask for a change of the site that has these names
+abbrev pub Asks : List (List ℕ) → Request (List ℕ) → Change → Type 0
+Asks names request change = (words : Words) × Says (posting_of names request) words × (change_of words ≡ Some change)
 
 -- what a request comes to: the correction that its words ask for was made, or none was
 abbrev pub ComesTo : Map → AtDesk → Request (List ℕ) → AtDesk → Result Made DeskFault → Type 0
 ComesTo opening before request after (Ok made) =
-    (change : Change) × Asks request change × Makes opening before change after made
-ComesTo opening before request after (Err fault) = MakesNone opening before (Asks request) after fault
+    (change : Change) × Asks before.names request change × Makes opening before change after made
+ComesTo opening before request after (Err fault) = MakesNone opening before (Asks before.names request) after fault
 
 -- what holds up a correction that may be made: memory, a site that is busy, the shelf, or the hub
 abbrev pub IsHeldUp : DeskFault → Type 0
@@ -98,8 +100,8 @@ WhyRefused opening before words after fault = AsksNone words fault ⊎ ((change 
 
 -- Why none is made of a request: it says no four words, or what these ask for is not made.
 abbrev pub WhyNone : Map → AtDesk → Request (List ℕ) → AtDesk → DeskFault → Type 0
-WhyNone opening before request after fault = SaysNone (posting_of request) fault
-    ⊎ ((words : Words) × Says (posting_of request) words × WhyRefused opening before words after fault)
+WhyNone opening before request after fault = SaysNone (posting_of before.names request) fault
+    ⊎ ((words : Words) × Says (posting_of before.names request) words × WhyRefused opening before words after fault)
 
 -- a request is answered with what it comes to, or is refused without words
 pub record AnswersAt (opening : Map) (before : AtDesk) (request : Request (List ℕ)) (response : Response)

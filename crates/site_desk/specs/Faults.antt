@@ -2,15 +2,17 @@
 use Rattle.std.specs.Prelude.{ℕ, List, codes}
 use Rattle.site_desk.specs.declared.answer.Status.{Status}
 use Rattle.site_desk.specs.declared.answer.Status.TheVariants.{BadRequest, NotFound, MethodNotAllowed, Conflict}
-use Rattle.site_desk.specs.declared.answer.Status.TheVariants.{UnsupportedMediaType, ServiceUnavailable}
+use Rattle.site_desk.specs.declared.answer.Status.TheVariants.{UnsupportedMediaType, MisdirectedRequest}
+use Rattle.site_desk.specs.declared.answer.Status.TheVariants.{ServiceUnavailable}
 use Rattle.site_desk.specs.declared.fault.DeskFault.{DeskFault}
 use Rattle.site_desk.specs.declared.fault.DeskFault.TheVariants.{NoPath, NoPost, HasOrigin, NoKind, NoForm, NoObject}
 use Rattle.site_desk.specs.declared.fault.DeskFault.TheVariants.{NoChange, BadKey, BadTag, BadValue, NoSite}
-use Rattle.site_desk.specs.declared.fault.DeskFault.TheVariants.{StampsSpent}
+use Rattle.site_desk.specs.declared.fault.DeskFault.TheVariants.{ForeignHost, StampsSpent}
 use Rattle.site_desk.specs.declared.fault.DeskFault.TheVariants.{Shelf, Busy, Unshown, Memory}
 
 -- the reason, in words: of a part as `archive correct` names it
 abbrev pub words_of : DeskFault → List ℕ
+words_of ForeignHost = codes "this name is not one of the site's: see --name"
 words_of NoPath = codes "there is no such path: a correction is posted to /correct"
 words_of NoPost = codes "a correction is asked for by POST"
 words_of HasOrigin = codes "no page in a browser may correct"
@@ -30,6 +32,7 @@ words_of Memory = codes "memory was refused"
 
 -- its status (RFC 9110, 15)
 abbrev pub status_of : DeskFault → Status
+status_of ForeignHost = MisdirectedRequest
 status_of NoPath = NotFound
 status_of NoPost = MethodNotAllowed
 status_of HasOrigin = BadRequest

@@ -14,9 +14,9 @@ use Rattle.site_desk.specs.Heard.{HasBody, HasStatus}
 -- all that a desk refuses for
 abbrev pub all_faults : List DeskFault
 all_faults =
-    Fault.NoPath ∷ Fault.NoPost ∷ Fault.HasOrigin ∷ Fault.NoKind ∷ Fault.NoForm ∷ Fault.NoObject ∷ Fault.NoChange
-    ∷ Fault.BadKey ∷ Fault.BadTag ∷ Fault.BadValue ∷ Fault.NoSite ∷ Fault.StampsSpent ∷ Fault.Shelf ∷ Fault.Busy
-    ∷ Fault.Unshown ∷ Fault.Memory ∷ []
+    Fault.ForeignHost ∷ Fault.NoPath ∷ Fault.NoPost ∷ Fault.HasOrigin ∷ Fault.NoKind ∷ Fault.NoForm
+    ∷ Fault.NoObject ∷ Fault.NoChange ∷ Fault.BadKey ∷ Fault.BadTag ∷ Fault.BadValue ∷ Fault.NoSite
+    ∷ Fault.StampsSpent ∷ Fault.Shelf ∷ Fault.Busy ∷ Fault.Unshown ∷ Fault.Memory ∷ []
 
 -- the first of some reasons of which this is the line
 abbrev pub fault_by : List ℕ → List DeskFault → Option DeskFault

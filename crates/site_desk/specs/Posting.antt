@@ -10,13 +10,15 @@ use Rattle.site_desk.specs.declared.asking.Kind.{Kind}
 use Rattle.site_desk.specs.declared.asking.Kind.TheVariants.{Form, Object}
 use Rattle.site_desk.specs.declared.fault.DeskFault.{DeskFault}
 use Rattle.site_desk.specs.declared.fault.DeskFault.TheVariants.{NoPath, NoPost, HasOrigin, NoKind, NoForm, NoObject}
-use Rattle.site_desk.specs.declared.fault.DeskFault.TheVariants.{Memory}
+use Rattle.site_desk.specs.declared.fault.DeskFault.TheVariants.{ForeignHost, Memory}
 use Rattle.site_desk.specs.declared.words.Words.{Words}
 use Rattle.site_desk.specs.Forms as forms
 use Rattle.site_desk.specs.Objects as objects
 
--- a request: its method and path, the media type of its body, whether it names an origin, and its body
+-- a request: whether its host is one of the site's, its method and path, the media type of its body, whether it names
+-- an origin, and its body
 pub record Posting : Type 0 where
+  pub is_here : Bool
   pub method : List ℕ
   pub path : List ℕ
   pub media : List ℕ
@@ -36,9 +38,10 @@ kind_in media =
 -- what the words of a request stand in, or the first reason why it asks for no correction
 abbrev pub kind_asked : Posting → Result Kind DeskFault
 kind_asked posted =
-    cond (same posted.path (codes "/correct"))
+    cond posted.is_here
+    (cond (same posted.path (codes "/correct"))
     (cond (same posted.method (codes "POST"))
-    (cond posted.has_origin (Err HasOrigin) (kind_in posted.media)) (Err NoPost)) (Err NoPath)
+    (cond posted.has_origin (Err HasOrigin) (kind_in posted.media)) (Err NoPost)) (Err NoPath)) (Err ForeignHost)
 
 abbrev pub SaysBy : Result Kind DeskFault → List ℕ → Words → Type 0
 SaysBy (Ok Form) body words = forms.words_in (raw_pairs body) ≡ Some words

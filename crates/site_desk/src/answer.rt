@@ -16,6 +16,7 @@ pub enum Status {
     MethodNotAllowed,
     Conflict,
     UnsupportedMediaType,
+    MisdirectedRequest,
     ServiceUnavailable,
 }
 
@@ -30,6 +31,7 @@ impl Status {
             Status::MethodNotAllowed => 405,
             Status::Conflict => 409,
             Status::UnsupportedMediaType => 415,
+            Status::MisdirectedRequest => 421,
             Status::ServiceUnavailable => 503,
         }
     }

@@ -1,5 +1,5 @@
-//! What a request at the desk asks for: its path, its method, and the media type of its body
-//! (RFC 9110, sections 7.1, 8.3 and 9.3.3).
+//! What a request at the desk asks for: its host, its path, its method, and the media type of its
+//! body (RFC 9110, sections 7.1, 7.2, 8.3 and 9.3.3).
 
 ghost use Rattle.std.specs.Prelude.{◌≡◌, ◌==◌, take};
 ghost use Rattle.std.specs.List.{position_or_len};
@@ -70,6 +70,9 @@ fn kind_of(media: &[u8]) -> Result<Kind, DeskFault>
 pub fn asked(posted: &Posted<'_>) -> Result<Kind, DeskFault>
     ensures { result ≡ kind_asked posted.now }
 {
+    if !posted.is_here {
+        return Err(DeskFault::ForeignHost);
+    }
     if !is(posted.path, b"/correct") {
         return Err(DeskFault::NoPath);
     }

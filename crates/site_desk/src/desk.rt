@@ -1,6 +1,6 @@
 //! The desk of a running site.
 
-ghost use Rattle.std.specs.Prelude.{◌≡◌, IfOk, IfErr, Some, MatchResult};
+ghost use Rattle.std.specs.Prelude.{◌≡◌, IfOk, IfErr, Some, MatchResult, map};
 ghost use Rattle.command_words.specs.declared.Change.{Change};
 ghost use Rattle.site_desk.specs.Desks.{GoesOn, Makes, MakesNone, ComesTo, AnswersAt};
 ghost use Rattle.site_desk.specs.Desks.{WhyUnmade, WhyRefused, WhyNone};
@@ -23,7 +23,7 @@ use std::marker::Model;
 use std::sync::{Mutex, Wait};
 
 /// A pass with the shared keeper, the way to the shelf, what is known of the shelf's ledger, the
-/// number of the site, and the greatest counter that the desk has made.
+/// names of the site, its number, and the greatest counter that the desk has made.
 pub struct SiteDesk<
     'a,
     H: HubName,
@@ -39,12 +39,14 @@ pub struct SiteDesk<
     shelf: P,
     pass: Pass<H>,
     extract: Extract<N>,
+    names: &'a [&'a str],
     site: u16,
     last: u64,
 }
 
 impl<'a, H: HubName, T: Shows<H>, R: Wait + Drop, S: Wait, N: LedgerName, P: Put<N> + Copy> Model
     for SiteDesk<'a, H, T, R, S, N, P> {
+    ghost use Rattle.std.specs.Prelude.{map};
     ghost use Rattle.site_desk.specs.Desks.{AtDesk};
 
     ghost Value = { AtDesk };
@@ -52,6 +54,7 @@ impl<'a, H: HubName, T: Shows<H>, R: Wait + Drop, S: Wait, N: LedgerName, P: Put
     ghost view = { λ d. record {
       pass = d.pass;
       known = d.extract;
+      names = map (λ name. name.now) d.names.now;
       site = d.site;
       last = d.last;
     } };
@@ -66,7 +69,8 @@ impl<
     N: LedgerName,
     P: Put<N> + Copy,
 > SiteDesk<'a, H, T, R, S, N, P> {
-    /// The desk of the site of a number, which has made corrections up to this counter.
+    /// The desk of the site of a number, which may be asked by these names, and has made
+    /// corrections up to this counter.
     pub fn new(
         rt: &'a S,
         alloc: Global,
@@ -74,10 +78,16 @@ impl<
         shelf: P,
         pass: Pass<H>,
         extract: Extract<N>,
+        names: &'a [&'a str],
         stamps: Stamps,
     ) -> SiteDesk<'a, H, T, R, S, N, P>
-        ensures { result
-            ≡ record { pass = pass; known = extract; site = stamps.site; last = stamps.last } }
+        ensures { result ≡ record {
+          pass = pass;
+          known = extract;
+          names = map (λ name. name.now) names.now;
+          site = stamps.site;
+          last = stamps.last;
+        } }
     {
         SiteDesk {
             rt,
@@ -86,6 +96,7 @@ impl<
             shelf,
             pass,
             extract,
+            names,
             site: stamps.site,
             last: stamps.last,
         }
@@ -104,6 +115,7 @@ impl<
             shelf: _,
             pass,
             extract,
+            names: _,
             site: _,
             last,
         } = self;
@@ -151,13 +163,20 @@ impl<
         self.correct(change)
     }
 
+    /// The names of the site.
+    fn names(&self) -> &[&str]
+        ensures { map (λ name. name.now) result.now ≡ self.now.names }
+    {
+        self.names
+    }
+
     /// Makes the correction that a request asks for.
     fn comes(&mut self, request: &Request<Bytes>) -> Result<Made, DeskFault>
         ensures comes { ComesTo H.opening self.old request.now self.new result }
         ensures why { IfErr result (WhyNone H.opening self.old request.now self.new) }
         ensures goes_on { GoesOn self.old self.new }
     {
-        let posted = posted(request);
+        let posted = posted(request, self.names());
         let words = read(self.alloc, &posted)?;
         self.correct_by(&words)
     }

@@ -10,6 +10,8 @@ use thiserror::Error;
 /// Why the desk makes no correction, or that the hub does not show yet the one that is stored.
 #[derive(Clone, Copy, Debug, PartialEq, Eq, Error)]
 pub enum DeskFault {
+    #[error("the host is none of the site's")]
+    ForeignHost,
     #[error("nothing has this path")]
     NoPath,
     #[error("the method is not POST")]
@@ -60,6 +62,7 @@ impl DeskFault {
         ensures { result.now ≡ words_of self }
     {
         match self {
+            DeskFault::ForeignHost => "this name is not one of the site's: see --name",
             DeskFault::NoPath => "there is no such path: a correction is posted to /correct",
             DeskFault::NoPost => "a correction is asked for by POST",
             DeskFault::HasOrigin => "no page in a browser may correct",
@@ -91,6 +94,7 @@ impl DeskFault {
         ensures { result ≡ status_of self }
     {
         match self {
+            DeskFault::ForeignHost => Status::MisdirectedRequest,
             DeskFault::NoPath => Status::NotFound,
             DeskFault::NoPost => Status::MethodNotAllowed,
             DeskFault::HasOrigin => Status::BadRequest,

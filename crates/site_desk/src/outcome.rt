@@ -18,6 +18,7 @@ fn faults() -> &'static [DeskFault]
     ensures { result.now ≡ all_faults }
 {
     &[
+        DeskFault::ForeignHost,
         DeskFault::NoPath,
         DeskFault::NoPost,
         DeskFault::HasOrigin,

@@ -5,6 +5,8 @@ use std::marker::Model;
 /// What a request at the desk has.
 #[derive(Drop)]
 pub struct Posted<'a> {
+    /// Whether its host is one of the site's (RFC 9110, section 7.2).
+    pub is_here: bool,
     pub method: &'a [u8],
     pub path: &'a [u8],
     /// The media type of its body, empty where none is named.
@@ -20,6 +22,7 @@ impl<'a> Model for Posted<'a> {
     ghost Value = { Posting };
 
     ghost view = { λ p. record {
+      is_here = p.is_here;
       method = p.method.now;
       path = p.path.now;
       media = p.media.now;

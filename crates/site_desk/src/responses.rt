@@ -22,6 +22,7 @@ fn status_code(status: Status) -> StatusCode
         Status::MethodNotAllowed => StatusCode::METHOD_NOT_ALLOWED,
         Status::Conflict => StatusCode::CONFLICT,
         Status::UnsupportedMediaType => StatusCode::UNSUPPORTED_MEDIA_TYPE,
+        Status::MisdirectedRequest => StatusCode::MISDIRECTED_REQUEST,
         Status::ServiceUnavailable => StatusCode::SERVICE_UNAVAILABLE,
     }
 }

@@ -8,6 +8,7 @@ use Rattle.site_hub.proofs.Fronts.{prefix_self, prefix_trans}
 use Rattle.archive_page.specs.declared.answer.Answer.{Answer}
 use Rattle.archive_page.specs.declared.asked.Asked.{Asked}
 use Rattle.archive_page.specs.declared.asked.Asked.TheVariants.{Page, Style, Health, Metrics, Nothing, Change}
+use Rattle.archive_page.specs.declared.asked.Asked.TheVariants.{Elsewhere}
 use Rattle.archive_page.specs.declared.subject.Form.{Form}
 use Rattle.archive_page.specs.declared.subject.Subject.{Subject}
 use Rattle.site_pages.specs.Telling.{Says, Told, IsAnswered, asked_by, words_by}
@@ -29,19 +30,21 @@ pub answered_looked : {S : Type 0} (seat : S → Seat) (says : Says S)
     → (old : S) (request : Request (List ℕ)) (response : Response) (new : S)
     → IsAnswered says old request response new → HasLooked (seat old) (seat new)
 answered_looked {S} seat says each old request response new answered =
-    by_asked (asked_by request) answered.0 answered.1
+    by_asked (asked_by (says.names_of old) request) answered.0 answered.1
   where
     stays : new ≡ old → HasLooked (seat old) (seat new)
     stays e = subst (λ (s : S). HasLooked (seat old) (seat s)) (sym e) (looked_self (seat old))
 
-    by_asked : (asked : Asked) (told : Option Answer) → Told says old asked (words_by request) told new
-        → HasLooked (seat old) (seat new)
-    by_asked (Page subject form) told t = each old subject form (words_by request) told new t
+    by_asked : (asked : Asked) (told : Option Answer)
+        → Told says old asked (words_by (says.names_of old) request) told new → HasLooked (seat old) (seat new)
+    by_asked (Page subject form) told t =
+        each old subject form (words_by (says.names_of old) request) told new t
     by_asked Style told t = stays t.0
     by_asked Health told t = stays t.0
     by_asked Metrics told t = stays t.0
     by_asked Nothing told t = stays t.0
     by_asked Change told t = stays t.0
+    by_asked Elsewhere told t = stays t.0
 
 -- so are several, one after another
 pub chain_looked : {S : Type 0} (seat : S → Seat) (answers : S → Request (List ℕ) → Response → S → Type 0)

@@ -14,11 +14,12 @@ use Rattle.archive_page.specs.declared.subject.Subject.{Subject}
 use Rattle.site_pages.specs.Telling.{Says, IsAnswered}
 use Rattle.site_pages.specs.SitePages.{IsPage}
 
--- a pass, and what the server of its site knows: its name, why it takes nothing, if so, further facts, and what it
--- counts
+-- a pass, and what the server of its site knows: its name, the names by which it may be asked, why it takes nothing, if
+-- so, further facts, and what it counts
 pub record HubSource : Type 0 where
   pub pass : Seat
   pub name : List ℕ
+  pub names : List (List ℕ)
   pub fault : Option (List ℕ)
   pub facts : List Fact
   pub samples : List Sample
@@ -37,6 +38,7 @@ says_from opening = record {
   tells = TellsFrom opening;
   fault_of = λ source. source.fault;
   samples_of = λ source. source.samples;
+  names_of = λ source. source.names;
 }
 
 -- a request is answered with what one look at the running site at most tells of what it asks for

@@ -16,6 +16,8 @@ pub struct HubPages<'a, H: HubName> {
     pub pass: Pass<H>,
     /// What the site is called.
     pub name: &'a [u8],
+    /// The names by which it may be asked.
+    pub names: &'a [&'a str],
     /// Why its shelf does not take what it is given, if it does not.
     pub fault: Option<&'a [u8]>,
     /// What else its server knows of itself, in the order in which it is told.
@@ -25,6 +27,7 @@ pub struct HubPages<'a, H: HubName> {
 }
 
 impl<'a, H: HubName> Model for HubPages<'a, H> {
+    ghost use Rattle.std.specs.Prelude.{map};
     ghost use Rattle.std.specs.Option.{option_copied};
     ghost use Rattle.site_pages.specs.HubPages.{HubSource};
 
@@ -33,6 +36,7 @@ impl<'a, H: HubName> Model for HubPages<'a, H> {
     ghost view = { λ p. record {
       pass = p.pass;
       name = p.name.now;
+      names = map (λ name. name.now) p.names.now;
       fault = option_copied p.fault;
       facts = p.facts.now;
       samples = p.samples.now;
@@ -65,5 +69,9 @@ impl<'a, H: HubName> Source for HubPages<'a, H> {
 
     fn samples(&self) -> &[Sample] {
         self.samples
+    }
+
+    fn names(&self) -> &[&str] {
+        self.names
     }
 }

@@ -1,9 +1,10 @@
 //! The pages of a source, as a service.
 
-ghost use Rattle.std.specs.Prelude.{◌≡◌};
+ghost use Rattle.std.specs.Prelude.{◌≡◌, map};
 ghost use Rattle.http.specs.declared.request.Request.{Request};
 ghost use Rattle.std.specs.Option.{option_copied};
 ghost use Rattle.site_pages.specs.Telling.{Told, IsAnswered, these_or_none, words_of};
+ghost use Rattle.site_pages.specs.Telling.{bytes_if_any, asked_by};
 
 use crate::responses::{refuse, respond};
 use crate::source::Source;
@@ -12,13 +13,15 @@ use archive_page::{
     style_answer,
 };
 use bytes::Bytes;
-use http::Request;
+use http::{HeaderName, HeaderValue, Request};
 use http_server::{Response, Service};
 use std::alloc::{AllocError, Global};
 
 const NO_PAGE: [u8; 22] = *b"There is no such page.";
 
 const NO_CHANGE: [u8; 35] = *b"A page is asked for by GET or HEAD.";
+
+const NOT_HERE: [u8; 47] = *b"This name is not one of the site's: see --name.";
 
 /// The pages of a source.
 #[derive(Drop)]
@@ -35,6 +38,25 @@ fn bytes_of(query: Option<&str>) -> &[u8]
         None => &[],
         Some(query) => query.as_bytes(),
     }
+}
+
+/// The bytes of a field, if it is there.
+fn bytes_in(value: Option<&HeaderValue>) -> Option<&[u8]>
+    ensures { option_copied result ≡ bytes_if_any (option_copied value.entry) }
+{
+    match value {
+        None => None,
+        Some(value) => Some(value.as_bytes()),
+    }
+}
+
+/// What a request asks for of the site that has these names.
+fn asked(request: &Request<Bytes>, names: &[&str]) -> Asked
+    ensures { result ≡ asked_by (map (λ name. name.now) names.now) request.now }
+{
+    let host = bytes_in(request.headers().get(HeaderName::from_static("host")));
+    let method = request.method().as_str().as_bytes();
+    Asked::at(host, names, method, request.uri().path().as_bytes())
 }
 
 /// What a page is asked for with: that of a study with its name, and all else with the query.
@@ -74,6 +96,9 @@ impl<S: Source> Pages<S> {
             Asked::Change => {
                 refusal(self.alloc, Status::MethodNotAllowed, NO_CHANGE.as_slice()).ok()
             }
+            Asked::Elsewhere => {
+                refusal(self.alloc, Status::MisdirectedRequest, NOT_HERE.as_slice()).ok()
+            }
         }
     }
 }
@@ -87,9 +112,8 @@ impl<S: Source> Service for Pages<S> {
         request: &Request<Bytes>,
         response: &mut Response,
     ) -> Result<(), AllocError> {
-        let method = request.method().as_str().as_bytes();
+        let asked = asked(request, self.source.names());
         let path = request.uri().path().as_bytes();
-        let asked = Asked::of(method, path);
         let words = words(asked, study_name(path), bytes_of(request.uri().query()));
         match self.told(asked, words) {
             Some(answer) => respond(response, answer),

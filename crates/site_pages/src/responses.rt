@@ -33,6 +33,7 @@ fn status_code(status: Status) -> StatusCode
         Status::BadRequest => StatusCode::BAD_REQUEST,
         Status::NotFound => StatusCode::NOT_FOUND,
         Status::MethodNotAllowed => StatusCode::METHOD_NOT_ALLOWED,
+        Status::MisdirectedRequest => StatusCode::MISDIRECTED_REQUEST,
         Status::ServiceUnavailable => StatusCode::SERVICE_UNAVAILABLE,
     }
 }

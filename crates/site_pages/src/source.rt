@@ -1,6 +1,6 @@
 //! What tells the pages.
 
-ghost use Rattle.std.specs.Prelude.{◌≡◌};
+ghost use Rattle.std.specs.Prelude.{◌≡◌, map};
 ghost use Rattle.std.specs.Option.{option_copied};
 ghost use Rattle.site_pages.specs.Telling.{Says};
 
@@ -9,7 +9,8 @@ use std::alloc::Global;
 
 /// What tells the pages.
 pub trait Source {
-    // What is told of pages, why the site takes nothing, if so, and what is counted of it.
+    // What is told of pages, why the site takes nothing, if so, what is counted of it, and which
+    // names it has.
     ghost says: { Says Self };
 
     /// The page about a subject, asked with a query (RFC 3986, section 3.4), or of a study with its
@@ -24,4 +25,8 @@ pub trait Source {
     /// What is counted of the site.
     fn samples(&self) -> &[Sample]
         ensures { result.now ≡ says.samples_of self.now };
+
+    /// The names by which it may be asked.
+    fn names(&self) -> &[&str]
+        ensures { map (λ name. name.now) result.now ≡ says.names_of self.now };
 }

@@ -9,4 +9,5 @@ use Rattle.archive_server.proofs.correcting.accept_again.Given as goal
 abbrev pub invariant-loop : goal.invariant-loop
 invariant-loop g l = ((times : List Duration)
     × Went (g.C.Pauses.turns l.fn.pauses) (g.C.Pauses.turns l.pauses) (flat_map wait_on times))
-    × HasAnswered g.H.HubName.opening (at_desk l.fn.clerk l.fn.stamps) (at_desk l.onward l.made)
+    × HasAnswered g.H.HubName.opening (at_desk l.fn.correcting.names.now l.fn.clerk l.fn.stamps)
+    (at_desk l.fn.correcting.names.now l.onward l.made)

@@ -6,7 +6,8 @@ pub returns-then-is_err : goal.returns-then-is_err
 returns-then-is_err g c = record {
   corrected = (
     record { site = c.args.correcting.site; last = 0 },
-    answered_none g.H.HubName.opening _ _ (record { site = c.args.correcting.site; last = 0 }) c.nothing.ensures.clerk,
+    answered_none g.H.HubName.opening _ _ _ (record { site = c.args.correcting.site; last = 0 })
+        c.nothing.ensures.clerk,
   );
 }
 

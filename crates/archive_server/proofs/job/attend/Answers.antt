@@ -19,7 +19,8 @@ returns-in-Pages g c =
 -- A pass of the desk has gone on, likewise.
 pub returns-in-Corrects : goal.returns-in-Corrects
 returns-in-Corrects g c =
-    let gone = corrected_gone g.H.HubName.opening c.in-Corrects.correcting.site c.args.clerk c.correct_all.result.clerk
+    let it = c.in-Corrects.correcting in
+    let gone = corrected_gone g.H.HubName.opening it.names.now it.site c.args.clerk c.correct_all.result.clerk
     c.correct_all.ensures.corrected in record {
       served = served_none _ _ (ap (λ job. room_of c.args.hall.now.each job) c.in-Corrects.is)
           c.beside-in-Corrects.ensures.none

@@ -19,6 +19,7 @@ returns-clause-served g c =
         made = record {
           looked = rw source.ensures.pass c.counted-samples.ensures.looked;
           name = source.ensures.name;
+          names = source.ensures.names;
           fault = source.ensures.fault;
           facts = source.ensures.facts;
           samples = rw (source.ensures.pass, source.ensures.samples, c.as_slice.ensures.value)

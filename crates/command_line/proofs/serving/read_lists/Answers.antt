@@ -8,7 +8,8 @@ returns-clause-lists c = record {
   exchange_allowed = c.in_ok-serving-3.ensures;
   page_allowed = c.in_ok-serving-4.ensures;
   desk_allowed = c.in_ok-serving-5.ensures;
-  callers = c.in_ok-serving-6.ensures;
-  quality_callers = c.in_ok-serving-7.ensures;
-  audit_callers = c.in_ok-serving-8.ensures;
+  names = c.in_ok-serving-6.ensures;
+  callers = c.in_ok-serving-7.ensures;
+  quality_callers = c.in_ok-serving-8.ensures;
+  audit_callers = c.in_ok-serving-9.ensures;
 }

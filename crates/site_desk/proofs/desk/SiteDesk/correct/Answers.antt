@@ -16,6 +16,7 @@ returns-in_err-keep-clause-goes_on g c = rw (← c.self.view_is) (record {
   onward = looked_onward c.keep.new.extract c.self.inside.pass c.top_of.new.pass c.keep.new.pass c.top_of.ensures.looked
       c.keep.ensures.onward;
   known = c.keep.ensures.known;
+  names = refl;
   site = refl;
   last = last_rises c.self.inside.site c.in_ok-top.top c.self.inside.last _ c.args.change c.in_ok-made.made
       c.stamp-stamp.result c.in_ok-top.ensures.top c.in_ok-made.ensures c.stamp-stamp.ensures.value;
@@ -27,6 +28,7 @@ returns-clause-goes_on g c = rw (← c.self.view_is) (record {
   onward = looked_onward c.keep.new.extract c.self.inside.pass c.top_of.new.pass c.keep.new.pass c.top_of.ensures.looked
       c.keep.ensures.onward;
   known = c.keep.ensures.known;
+  names = refl;
   site = refl;
   last = last_rises c.self.inside.site c.in_ok-top.top c.self.inside.last _ c.args.change c.in_ok-made.made
       c.stamp-stamp.result c.in_ok-top.ensures.top c.in_ok-made.ensures c.stamp-stamp.ensures.value;
