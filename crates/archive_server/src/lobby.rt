@@ -1,7 +1,7 @@
 //! Who came to a door and has not asked yet, or has been answered and not gone yet: the thread of
 //! the door serves others meanwhile.
 
-ghost use Rattle.std.specs.Prelude.{◌≡◌, ℕ, Option, IfOk, is_some, true};
+ghost use Rattle.std.specs.Prelude.{◌≡◌, ◌≤◌, ℕ, Option, IfOk, is_some, length, true};
 ghost use Rattle.core.specs.Duration.{as_nanos};
 ghost use Rattle.memchr.specs.Find.{FindsNeedle};
 ghost use Rattle.command_words.specs.Networks.{may_come};
@@ -39,6 +39,7 @@ const PIECES: usize = 64;
 /// How many milliseconds are between looks at who waits, while the last of them came within a turn,
 /// and else.
 const SOON: u64 = 5;
+
 const LATER: u64 = 50;
 
 /// One who came, and when, as far as a clock says it.
@@ -64,7 +65,9 @@ fn has_head(text: &[u8]) -> bool {
 }
 
 /// What has come of a request so far, which stays to be read: nothing is waited for.
-fn come_by(stream: &TcpStream, front: &mut [u8]) -> io::Result<usize> {
+fn come_by(stream: &TcpStream, front: &mut [u8]) -> io::Result<usize>
+    ensures bound { IfOk result (λ count. count ≤ length front.new) }
+{
     stream.set_nonblocking(true)?;
     let come = stream.peek(front);
     stream.set_nonblocking(false)?;

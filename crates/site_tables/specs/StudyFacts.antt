@@ -16,6 +16,7 @@ use Rattle.archive_model.specs.declared.query.Query.{Query}
 use Rattle.archive_model.specs.declared.key.Level.TheVariants.{Study}
 use Rattle.archive_model.specs.Rows.{rows_of}
 use Rattle.archive_query.specs.Found.{FoundValue, rows_found}
+use Rattle.site_tables.specs.declared.study_facts.TheConstants.{DESCRIPTION, REFERRING_PHYSICIAN, ACCESSION}
 use Rattle.site_tables.specs.declared.study_facts.StudyFacts.{StudyFacts}
 use Rattle.site_tables.specs.Studies.{asked_of, value_or_none}
 
@@ -66,13 +67,13 @@ abbrev pub moment_rows : Set → List (List (List ℕ))
 moment_rows set =
     fact_row (codes "date") STUDY_DATE set
     ∷ fact_row (codes "time") STUDY_TIME set
-    ∷ fact_row (codes "description") STUDY_DESCRIPTION set
+    ∷ fact_row DESCRIPTION STUDY_DESCRIPTION set
     ∷ []
 
 abbrev pub order_rows : Set → List (List (List ℕ))
 order_rows set =
-    fact_row (codes "referring physician") REFERRING_PHYSICIAN_NAME set
-    ∷ fact_row (codes "accession number") ACCESSION_NUMBER set
+    fact_row REFERRING_PHYSICIAN REFERRING_PHYSICIAN_NAME set
+    ∷ fact_row ACCESSION ACCESSION_NUMBER set
     ∷ fact_row (codes "study ID") STUDY_ID set
     ∷ []
 

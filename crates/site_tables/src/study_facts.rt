@@ -102,6 +102,13 @@ fn fact_query(alloc: Global, uid: &[u8]) -> Result<Query, AllocError>
     })
 }
 
+/// Words that a proof takes by their names.
+const DESCRIPTION: [u8; 11] = *b"description";
+
+const REFERRING_PHYSICIAN: [u8; 19] = *b"referring physician";
+
+const ACCESSION: [u8; 16] = *b"accession number";
+
 /// Puts the row of an attribute.
 #[tactic(auto, unfolding(crate::specs::StudyFacts::fact_row))]
 fn put_fact(
@@ -136,7 +143,7 @@ fn put_moment(alloc: Global, set: &DataSet, rows: &mut ListOf<Row>) -> Result<()
 {
     put_fact(alloc, b"date", STUDY_DATE, set, rows)?;
     put_fact(alloc, b"time", STUDY_TIME, set, rows)?;
-    put_fact(alloc, b"description", STUDY_DESCRIPTION, set, rows)
+    put_fact(alloc, DESCRIPTION.as_slice(), STUDY_DESCRIPTION, set, rows)
 }
 
 /// Puts what is told of its order.
@@ -145,12 +152,12 @@ fn put_order(alloc: Global, set: &DataSet, rows: &mut ListOf<Row>) -> Result<(),
 {
     put_fact(
         alloc,
-        b"referring physician",
+        REFERRING_PHYSICIAN.as_slice(),
         REFERRING_PHYSICIAN_NAME,
         set,
         rows,
     )?;
-    put_fact(alloc, b"accession number", ACCESSION_NUMBER, set, rows)?;
+    put_fact(alloc, ACCESSION.as_slice(), ACCESSION_NUMBER, set, rows)?;
     put_fact(alloc, b"study ID", STUDY_ID, set, rows)
 }
 
