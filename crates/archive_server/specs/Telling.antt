@@ -45,19 +45,19 @@ AreSamplesOf opening seat known samples =
     ≡ samples_in (reading_in (counts_of (ops_of (set_of opening seat.seen))) known) known.peers known.callers)
 
 -- A source of pages that is called so, and has these names, was made of a look of a pass, and of what its server knows.
-pub record IsSourceOf (opening : Map) (site : List ℕ) (names : List (Bor (List ℕ))) (known : Knowledge) (seat : Seat)
+pub record IsSourceOf (opening : Map) (site : List ℕ) (own : List (Bor (List ℕ))) (known : Knowledge) (seat : Seat)
     (source : HubSource) : Type 0 where
   pub looked : HasLooked seat source.pass
   pub name : source.name ≡ site
-  pub names : source.names ≡ map (λ name. name.now) names
+  pub names : source.names ≡ map (λ name. name.now) own
   pub fault : source.fault ≡ known.refusal
   pub facts : source.facts ≡ known.facts
   pub samples : AreSamplesOf opening source.pass known source.samples
 
 -- each request of a connection was answered from such a source
-pub record AreTold (opening : Map) (site : List ℕ) (names : List (Bor (List ℕ))) (known : Knowledge) (seat : Seat)
+pub record AreTold (opening : Map) (site : List ℕ) (own : List (Bor (List ℕ))) (known : Knowledge) (seat : Seat)
     (h : History) : Type 0 where
   pub source : HubSource
   pub after : HubSource
-  pub made : IsSourceOf opening site names known seat source
+  pub made : IsSourceOf opening site own known seat source
   pub calls : Calls (AnswersFrom opening) source after [] h.calls

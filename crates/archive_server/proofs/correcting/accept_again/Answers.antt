@@ -1,5 +1,6 @@
 use Rattle.std.proofs.Common.{◌∷◌, ◌++◌, [], refl, ◌∙◌}
-use Rattle.archive_server.proofs.CorrectingLaws.{answered_on}
+use Rattle.archive_server.proofs.CallingLaws.{went_none}
+use Rattle.archive_server.proofs.CorrectingLaws.{answered_on, answered_self}
 use Rattle.archive_server.proofs.PagingLaws.{one_wait_more, the_last_wait}
 use Rattle.archive_server.proofs.correcting.accept_again.Goals as goal
 
@@ -32,3 +33,7 @@ loop-preserved g c =
           c.accept_one-done.result.1 c.loop.invariant.1 refl
           c.accept_one-done.ensures.answered c.into_parts-clerk.ensures.clerk,
     )
+
+-- Nobody came yet.
+pub loop-init : goal.loop-init
+loop-init g c = (([], went_none (g.C.Pauses.turns c.args.pauses.now)), answered_self g.H.HubName.opening _)
